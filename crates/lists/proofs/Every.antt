@@ -1,0 +1,64 @@
+-- Laws of `every` and `everyIn`: what a test over a list or a range says of each part, and the other way round.
+-- Assumes nothing.
+use Prim.Native.Nat.{ℕ, zero, suc, _+_, _-_, _≤_, _<_}
+use mathlib.Core.Path.{_≡_, refl, sym, ap, ap₂, _∙_}
+use mathlib.Core.Bool.{Bool, true, false, _&&_}
+use mathlib.Core.List.{List, [], _∷_}
+use native.Mathlib.Omega.{arith}
+use native.Mathlib.Decide.{ℕ-discrete}
+use native.Mathlib.Numerals.{add-one}
+use native.Mathlib.Nat.{sub-eq-zero-of-le}
+use Rattle.lists.specs.Every.{every, everyOf, everyIn}
+
+-- both parts of a test that holds, and one that holds because its parts do
+pub and-left : (a b : Bool) → (a && b) ≡ true → a ≡ true
+and-left true b e = refl
+and-left false b e = e
+
+pub and-right : (a b : Bool) → (a && b) ≡ true → b ≡ true
+and-right true b e = e
+and-right false true e = refl
+and-right false false e = e
+
+pub and-both : (a b : Bool) → a ≡ true → b ≡ true → (a && b) ≡ true
+and-both a b p q = rw (p, q)
+
+-- ---- a range
+
+-- no number is left to test
+pub everyIn-none : (p : ℕ → Bool) (first end : ℕ) → end ≤ first → everyIn p first end ≡ true
+unfolding everyIn everyOf
+everyIn-none p first end h = rw (sub-eq-zero-of-le h)
+
+-- the first number, and then the rest
+pub everyIn-more : (p : ℕ → Bool) (first end : ℕ) → first < end → everyIn p first end ≡ (p first && everyIn p (first + 1) end)
+unfolding everyIn everyOf
+everyIn-more p first end h =
+    let n : end - first ≡ suc (end - (first + 1)) = omega arith in
+    rw (n, add-one first)
+
+module _ (p : ℕ → Bool) where
+  of-at : (n first : ℕ) → everyOf p first n ≡ true → (k : ℕ) → first ≤ k → k < first + n → p k ≡ true
+  unfolding everyOf
+  of-at zero first e k a b = absurd (omega arith)
+  of-at (suc n) first e k a b =
+      elim (ℕ-discrete k first) [
+        | yes q ↦ ap p q ∙ and-left (p first) (everyOf p (suc first) n) e
+        | no q ↦ of-at n (suc first) (and-right (p first) (everyOf p (suc first) n) e) k (omega arith) (omega arith)
+      ]
+
+  all-of : (n first : ℕ) → ((k : ℕ) → first ≤ k → k < first + n → p k ≡ true) → everyOf p first n ≡ true
+  unfolding everyOf
+  all-of zero first h = refl
+  all-of (suc n) first h =
+      and-both (p first) (everyOf p (suc first) n) (h first (omega arith) (omega arith)) (all-of n (suc first) (λ k a b. h k (omega arith) (omega arith)))
+
+  -- a test that holds of the range holds of each number in it
+  pub everyIn-at : (first end : ℕ) → everyIn p first end ≡ true → (k : ℕ) → first ≤ k → k < end → p k ≡ true
+  unfolding everyIn
+  everyIn-at first end e k a b = of-at (end - first) first e k a (omega arith)
+
+  -- one that holds of each number in it holds of the range
+  pub everyIn-all : (first end : ℕ) → ((k : ℕ) → first ≤ k → k < end → p k ≡ true) → everyIn p first end ≡ true
+  unfolding everyIn
+  everyIn-all first end h = all-of (end - first) first (λ k a b. h k a (omega arith))
