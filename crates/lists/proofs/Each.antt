@@ -3,16 +3,14 @@
 -- Assumes nothing.
 use Prim.Native.Nat.{ℕ, zero, suc, _+_, _≤_, _<_}
 use mathlib.Core.Path.{_≡_, refl, sym, ap, _∙_}
-use mathlib.Core.Bool.{Bool, true, false, _&&_, cond, and-false}
+use mathlib.Core.Bool.{Bool, true, false, _&&_, _||_, cond, and-false}
 use mathlib.Core.List.{List, [], _∷_}
-use mathlib.Core.Logic.{_⊎_, inl, inr, ⊎-elim}
 use native.Mathlib.Omega.{arith}
 use native.Mathlib.Decide.{decLt, decLe, ℕ-discrete}
-use native.Mathlib.Nat.{lt-of-not-le}
 use lib.Dec.{leb, ltb}
 use lib.ListN.{length, getD, set, length-set}
 use lib.Seq.{ext-getD, getD-set-same, getD-set-other}
-use borrow.Author.Tests.{lt-ltb, le-ltb, le-leb, lt-leb, leb-true, leb-false, ltb-true, ltb-false}
+use borrow.Author.Tests.{lt-ltb, le-ltb, le-leb, lt-leb}
 use Rattle.lists.specs.Each.{each, inRange, only, within}
 
 -- ---- every element
@@ -62,6 +60,22 @@ after-range first end k a = rw (le-ltb k end a) (and-false (leb first k))
 pub place {ℓ} : {X : Type ℓ} (first end k : ℕ) → (k < first → X) → (first ≤ k → k < end → X) → (end ≤ k → X) → X
 place first end k before inside after =
     elim (decLe first k) [ yes a ↦ elim (decLt k end) [ yes b ↦ inside a b | no b ↦ after (omega arith) ] | no a ↦ before (omega arith) ]
+
+-- a range cut in two: each of its numbers is in exactly one part
+pub range-parts : (first mid end k : ℕ) → first ≤ mid → mid ≤ end → inRange first end k ≡ (inRange first mid k || inRange mid end k)
+range-parts first mid end k a b =
+    place first end k
+    (λ c. rw (before-range first end k c, before-range first mid k c, before-range mid end k (omega arith)))
+    (λ c d. elim (decLt k mid) [
+      | yes m ↦ rw (in-range first end k c d, in-range first mid k c m)
+      | no m ↦ rw (in-range first end k c d, after-range first mid k (omega arith), in-range mid end k (omega arith) d)
+    ])
+    (λ d. rw (after-range first end k d, after-range first mid k (omega arith), after-range mid end k d))
+
+pub range-apart : (first mid end k : ℕ) → (inRange first mid k && inRange mid end k) ≡ false
+range-apart first mid end k =
+    elim (decLt k mid)
+    [ yes m ↦ rw (before-range mid end k m) (and-false (inRange first mid k)) | no m ↦ rw (after-range first mid k (omega arith)) ]
 
 -- ---- an effect on a range
 

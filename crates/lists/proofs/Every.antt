@@ -8,6 +8,7 @@ use native.Mathlib.Omega.{arith}
 use native.Mathlib.Decide.{ℕ-discrete}
 use native.Mathlib.Numerals.{add-one}
 use native.Mathlib.Nat.{sub-eq-zero-of-le}
+use lib.ListN.{getD}
 use Rattle.lists.specs.Every.{every, everyOf, everyIn}
 
 -- both parts of a test that holds, and one that holds because its parts do
@@ -22,6 +23,18 @@ and-right false false e = e
 
 pub and-both : (a b : Bool) → a ≡ true → b ≡ true → (a && b) ≡ true
 and-both a b p q = rw (p, q)
+
+-- a test that cannot hold
+pub refuted : (b : Bool) → (b ≡ true → ⊥) → b ≡ false
+refuted true h = absurd (h refl)
+refuted false h = refl
+
+-- each test of a list that holds
+pub every-at : (ts : List Bool) (i : ℕ) → every ts ≡ true → getD ts i true ≡ true
+unfolding every
+every-at [] i e = refl
+every-at (t ∷ ts) zero e = and-left t (every ts) e
+every-at (t ∷ ts) (suc i) e = every-at ts i (and-right t (every ts) e)
 
 -- ---- a range
 

@@ -1,7 +1,8 @@
 -- Laws of the frames' test: what it says of each page, and how it goes page by page. Assumes nothing.
 use Prim.Native.Nat.{ℕ, _+_, _≤_, _<_}
-use mathlib.Core.Path.{_≡_, _∙_, refl, ap, sym}
-use mathlib.Core.Bool.{Bool, true, false, _&&_}
+use mathlib.Core.Path.{_≡_, refl}
+use mathlib.Core.Bool.{true, false}
+use native.Mathlib.Omega.{arith}
 use borrow.Author.Tests.{lt-ltb, le-ltb, ltb-true}
 use Rattle.lists.proofs.Every.{everyIn-none, everyIn-more, everyIn-at, everyIn-all}
 use Rattle.page_table.specs.Limits.{frameLimit}
@@ -19,6 +20,14 @@ frames-fit first end delta e page a b = ltb-true (linearFrame page delta) frameL
 pub fit-frames : (first end delta : ℕ) → ((page : ℕ) → first ≤ page → page < end → linearFrame page delta < frameLimit) → framesFit first end delta ≡ true
 unfolding framesFit frameFits
 fit-frames first end delta h = everyIn-all (frameFits delta) first end (λ page a b. lt-ltb (linearFrame page delta) frameLimit (h page a b))
+
+-- a part of the range
+pub fits-part : (backend : Backend) (first end first′ end′ : ℕ) → backendFits backend first end ≡ true → first ≤ first′ → end′ ≤ end
+    → backendFits backend first′ end′ ≡ true
+unfolding backendFits
+fits-part Lazy first end first′ end′ e a b = refl
+fits-part (Linear delta) first end first′ end′ e a b =
+    fit-frames first′ end′ delta (λ page c d. frames-fit first end delta e page (omega arith) (omega arith))
 
 -- ---- page by page
 

@@ -1,0 +1,156 @@
+-- Laws of the cuts: each answer from its test, and what an accepted cut tells. Assumes nothing.
+use Prim.Native.Nat.{ℕ, zero, suc, _+_, _-_, _%_, _≤_, _<_}
+use mathlib.Core.Path.{_≡_, refl, sym, ap, _∙_}
+use mathlib.Core.Bool.{Bool, true, false, not, _&&_, and-false}
+use native.Mathlib.Omega.{arith}
+use native.Mathlib.Decide.{decLt, ℕ-discrete}
+use lib.Dec.{ltb, eqb}
+use borrow.Author.Tests.{lt-ltb, le-ltb, eq-eqb, ne-eqb}
+use Rattle.page_table.specs.Limits.{pageSize}
+use Rattle.area.specs.Answer.{answer}
+use Rattle.area.specs.Area.{aligned, goodArea, largestSpace, part, nothing}
+use Rattle.area.specs.Cut.{cutTests, cutAnswer, SplitOutcome, ShrunkOutcome, splitGives, splitOutcome, shrunkOutcome, splitBy, splitRule, shrunkGives, shrinkBy, sizeAnswer, shrinkLeftRule, shrinkRightRule}
+use Rattle.area.specs.declared.Area.{Area}
+use Rattle.area.specs.declared.Split.{Split}
+use Rattle.area.specs.declared.Shrunk.{Shrunk}
+use Rattle.area.proofs.Answers.{number-inj}
+use Rattle.area.proofs.Areas.{Good, Halves, good-is, part-good, halves}
+
+-- the tests in their order: each section adds that one more did not apply
+module _ (a : Area) (cut low high : ℕ) where
+  pub cut-bad : goodArea largestSpace a ≡ false → cutAnswer a cut low high ≡ 1
+  unfolding cutAnswer cutTests answer
+  cut-bad g = rw g
+
+  module _ (g : goodArea largestSpace a ≡ true) where
+    pub cut-unaligned : (cut % pageSize ≡ 0 → ⊥) → cutAnswer a cut low high ≡ 2
+    unfolding cutAnswer cutTests answer aligned
+    cut-unaligned u = rw (g, ne-eqb (cut % pageSize) 0 u)
+
+    module _ (e : cut % pageSize ≡ 0) where
+      pub cut-low : cut ≤ low → cutAnswer a cut low high ≡ 3
+      unfolding cutAnswer cutTests answer aligned
+      cut-low h = rw (g, eq-eqb (cut % pageSize) 0 e, le-ltb low cut h)
+
+      pub cut-high : high ≤ cut → cutAnswer a cut low high ≡ 3
+      unfolding cutAnswer cutTests answer aligned
+      cut-high h = rw (g, eq-eqb (cut % pageSize) 0 e, le-ltb cut high h, and-false (ltb low cut))
+
+      pub cut-inside : low < cut → cut < high → cutAnswer a cut low high ≡ 0
+      unfolding cutAnswer cutTests answer aligned
+      cut-inside l h = rw (g, eq-eqb (cut % pageSize) 0 e, lt-ltb low cut l, lt-ltb cut high h)
+
+-- what an accepted cut tells
+pub record Inside (a : Area) (cut low high : ℕ) : Type 0 where
+  pub good : Good largestSpace a
+  pub cut-aligned : cut % pageSize ≡ 0
+  pub above : low < cut
+  pub below : cut < high
+
+pub accepted-cut : (a : Area) (cut low high : ℕ) → cutAnswer a cut low high ≡ 0 → Inside a cut low high
+accepted-cut a cut low high z = first (goodArea largestSpace a) refl
+  where
+    first : (b : Bool) → goodArea largestSpace a ≡ b → Inside a cut low high
+    first false g = absurd (let e : cutAnswer a cut low high ≡ 1 = cut-bad a cut low high g in omega arith)
+    first true g =
+        elim (ℕ-discrete (cut % pageSize) 0) [
+          | no u ↦ absurd (let e : cutAnswer a cut low high ≡ 2 = cut-unaligned a cut low high g u in omega arith)
+          | yes u ↦ elim (decLt low cut) [
+            | no l ↦ absurd (let e : cutAnswer a cut low high ≡ 3 = cut-low a cut low high g u (omega arith) in omega arith)
+            | yes l ↦ elim (decLt cut high) [
+              | no h ↦ absurd (let e : cutAnswer a cut low high ≡ 3 = cut-high a cut low high g u (omega arith) in omega arith)
+              | yes h ↦ record { good = good-is largestSpace a g; cut-aligned = u; above = l; below = h }
+            ]
+          ]
+        ]
+
+-- ---- the rules at each answer
+
+split-zero : (n : ℕ) (a : Area) (at : ℕ) → n ≡ 0 → splitGives n (part a (a .start) at) (part a at (a .end)) ≡ splitBy n a at
+unfolding splitBy
+split-zero n a at z = rw z
+
+split-other : (n : ℕ) (a : Area) (at : ℕ) → (n ≡ 0 → ⊥) → splitGives n a nothing ≡ splitBy n a at
+unfolding splitBy
+split-other zero a at h = absurd (h refl)
+split-other (suc n) a at h = refl
+
+module _ (a : Area) (at n : ℕ) (e : n ≡ cutAnswer a at (a .start) (a .end)) where
+  pub split-accepted : n ≡ 0 → splitGives n (part a (a .start) at) (part a at (a .end)) ≡ splitRule a at
+  unfolding splitRule
+  split-accepted z = split-zero n a at z ∙ ap (λ (k : ℕ). splitBy k a at) e
+
+  pub split-refused : (n ≡ 0 → ⊥) → splitGives n a nothing ≡ splitRule a at
+  unfolding splitRule
+  split-refused z = split-other n a at z ∙ ap (λ (k : ℕ). splitBy k a at) e
+
+shrink-zero : (n : ℕ) (a shrunk : Area) → n ≡ 0 → shrunkGives n shrunk ≡ shrinkBy n a shrunk
+unfolding shrinkBy
+shrink-zero n a shrunk z = rw z
+
+shrink-other : (n : ℕ) (a shrunk : Area) → (n ≡ 0 → ⊥) → shrunkGives n a ≡ shrinkBy n a shrunk
+unfolding shrinkBy
+shrink-other zero a shrunk h = absurd (h refl)
+shrink-other (suc n) a shrunk h = refl
+
+module _ (a : Area) (size n old : ℕ) (o : old ≡ a .end - a .start) (e : n ≡ cutAnswer a size 0 old) where
+  sized : n ≡ sizeAnswer a size
+  sized = e ∙ ap (λ (k : ℕ). cutAnswer a size 0 k) o
+
+  -- the new size leaves room before the area's end
+  pub shorter : n ≡ 0 → a .start + size < a .end
+  shorter z = let i = accepted-cut a size 0 old (sym e ∙ z) in omega arith
+
+  pub left-accepted : n ≡ 0 → shrunkGives n (part a (a .end - size) (a .end)) ≡ shrinkLeftRule a size
+  unfolding shrinkLeftRule
+  left-accepted z = rw (← sized) (shrink-zero n a (part a (a .end - size) (a .end)) z)
+
+  pub left-refused : (n ≡ 0 → ⊥) → shrunkGives n a ≡ shrinkLeftRule a size
+  unfolding shrinkLeftRule
+  left-refused z = rw (← sized) (shrink-other n a (part a (a .end - size) (a .end)) z)
+
+  pub right-accepted : n ≡ 0 → shrunkGives n (part a (a .start) (a .start + size)) ≡ shrinkRightRule a size
+  unfolding shrinkRightRule
+  right-accepted z = rw (← sized) (shrink-zero n a (part a (a .start) (a .start + size)) z)
+
+  pub right-refused : (n ≡ 0 → ⊥) → shrunkGives n a ≡ shrinkRightRule a size
+  unfolding shrinkRightRule
+  right-refused z = rw (← sized) (shrink-other n a (part a (a .start) (a .start + size)) z)
+
+-- ---- what an accepted split gives: two good areas, which together give each page the entry that the whole gave it
+
+pub record SplitParts (a : Area) (s : SplitOutcome) : Type 0 where
+  pub left-good : Good largestSpace (s .left)
+  pub right-good : Good largestSpace (s .right)
+  pub pages : Halves a (s .left) (s .right)
+
+split-answer : (n : ℕ) (a : Area) (at : ℕ) → splitBy n a at .answer ≡ n
+unfolding splitBy
+split-answer zero a at = refl
+split-answer (suc n) a at = refl
+
+pub split-parts : (a : Area) (at : ℕ) → splitRule a at .answer ≡ 0 → SplitParts a (splitRule a at)
+unfolding splitRule
+split-parts a at z =
+    rw (← split-accepted a at 0 (sym answered) refl)
+    (record {
+      left-good = part-good largestSpace a (a .start) at (inside .good) (omega arith) (inside .above) (omega (arith, inside)) (inside .good .start-aligned) (inside .cut-aligned);
+      right-good = part-good largestSpace a at (a .end) (inside .good) (omega (arith, inside)) (inside .below) (omega arith) (inside .cut-aligned) (inside .good .end-aligned);
+      pages = halves a at (omega (arith, inside)) (omega (arith, inside));
+    })
+  where
+    answered : cutAnswer a at (a .start) (a .end) ≡ 0
+    answered = sym (split-answer (cutAnswer a at (a .start) (a .end)) a at) ∙ z
+
+    inside : Inside a at (a .start) (a .end)
+    inside = accepted-cut a at (a .start) (a .end) answered
+
+-- ---- no second outcome: the answer's number and the areas fix the result
+
+pub split-unique : (r s : Split) → splitOutcome r ≡ splitOutcome s → r ≡ s
+split-unique r s e i =
+    record { answer = number-inj (r .answer) (s .answer) (ap (λ (o : SplitOutcome). o .answer) e) i; left = e i .left; right = e i .right }
+
+pub shrunk-unique : (r s : Shrunk) → shrunkOutcome r ≡ shrunkOutcome s → r ≡ s
+shrunk-unique r s e i =
+    record { answer = number-inj (r .answer) (s .answer) (ap (λ (o : ShrunkOutcome). o .answer) e) i; area = e i .area }
