@@ -24,11 +24,11 @@ nothing-requires c κs = search needs
 returns : tie.Need-returns
 returns c =
     rw (c .before .part .ensures, c .part2 .ensures)
-    (split-accepted _ _ _ (c .before .before .before .before .cut-answer .ensures) (eqb-true _ _ (cc)))
+    (split-accepted _ _ _ (c .before .before .before .before .cut-answer .ensures) (eqb-true _ _ (sym (c .before .before .before .accepted .ensures) ∙ c .before .before .if1 .taken)))
 
 returns-2 : tie.Need-returns-2
 returns-2 c =
-    rw (c .nothing .ensures) (split-refused _ _ _ (c .before .before .before .cut-answer .ensures) (eqb-false _ _ (cc)))
+    rw (c .nothing .ensures) (split-refused _ _ _ (c .before .before .before .cut-answer .ensures) (eqb-false _ _ (sym (c .before .before .accepted .ensures) ∙ c .before .if1 .left)))
 
 pub split-spec : {M : Type 1} → statement M
 split-spec =
