@@ -1,0 +1,3 @@
+pub mod Goodness
+pub mod Ordered
+pub mod Rows

@@ -1,0 +1,32 @@
+-- Lists of good areas, each starting no earlier than the one before it ends. Assumes nothing.
+use Prim.Native.Nat.{ℕ, zero, suc, _≤_, _<_}
+use mathlib.Core.List.{List, [], _∷_}
+use native.Mathlib.Omega.{arith}
+use lib.ListN.{length, getD}
+use Rattle.area.specs.Area.{nothing}
+use Rattle.area.specs.declared.Area.{Area}
+use Rattle.area.proofs.Areas.{Good}
+
+pub data Ordered (space : ℕ) : ℕ → List Area → Type 0 where
+  none-left : {before : ℕ} → Ordered space before []
+  one-more : {before : ℕ} {a : Area} {xs : List Area} → Good space a → before ≤ a .start → Ordered space (a .end) xs → Ordered space before (a ∷ xs)
+
+module _ {space : ℕ} where
+  pub good-at : {before : ℕ} {xs : List Area} → Ordered space before xs → (i : ℕ) → i < length xs → Good space (getD xs i nothing)
+  good-at none-left i h = absurd (omega arith)
+  good-at (one-more g b o) zero h = g
+  good-at (one-more g b o) (suc i) h = good-at o i (omega arith)
+
+  -- every area starts at or past what came before
+  pub starts-past : {before : ℕ} {xs : List Area} → Ordered space before xs → (i : ℕ) → i < length xs → before ≤ getD xs i nothing .start
+  starts-past none-left i h = absurd (omega arith)
+  starts-past (one-more g b o) zero h = b
+  starts-past (one-more {a = a} g b o) (suc i) h = let r = starts-past o i (omega arith) in omega (arith, g .nonempty)
+
+  -- an area starts at or past the end of each one before it
+  pub apart : {before : ℕ} {xs : List Area} → Ordered space before xs → (i j : ℕ) → i < j → j < length xs
+      → getD xs i nothing .end ≤ getD xs j nothing .start
+  apart none-left i j h l = absurd (omega arith)
+  apart (one-more g b o) i zero h l = absurd (omega arith)
+  apart (one-more g b o) zero (suc j) h l = starts-past o j (omega arith)
+  apart (one-more g b o) (suc i) (suc j) h l = apart o i j (omega arith) (omega arith)

@@ -1,0 +1,134 @@
+// The lent area table, a sorted list of areas as words: how the words lie is known here and nowhere above. This crate tests
+// whether tables are good, reads an area and finds positions.
+use area::Area;
+use page_table::Backend;
+use page_table::MAX_PAGES;
+use page_table::PAGE;
+use page_table::entry::FLAGS;
+ghost use mathlib.Core.Path.{_≡_};
+ghost use mathlib.Core.Bool.{true};
+ghost use Prim.Native.Nat.{_+_, _*_, _<_, _≤_};
+ghost use lib.ListN.{length};
+ghost use Rattle.area_list.specs.Layout.{capacityOf, rowAt, areaOf, legalWord, backendOf, LegalRow};
+ghost use Rattle.area_list.specs.Good.{goodRow, goodTables};
+
+// Words an area takes.
+const WORDS: usize = 4;
+// The most areas that a table may have.
+const MAX_AREAS: usize = 256;
+// A linear backend's word is this plus its delta.
+const LINEAR: u64 = 0x1_0000_0000;
+
+const LINEAR_END: u64 = 2 * LINEAR;
+
+// The words of one area, as they lie: any numbers at all.
+struct Row {
+    start: u64,
+    end: u64,
+    flags: u64,
+    backend: u64,
+}
+
+// How many areas a table of so many words has room for.
+pub fn capacity(words: usize) -> usize
+    ensures { λ r. ⌜ r ≡ capacityOf words ⌝ }
+{
+    let whole = words / WORDS;
+    if whole < MAX_AREAS { whole } else { MAX_AREAS }
+}
+
+// The words of the area at a slot.
+fn row_at(areas: &[u64], slot: usize) -> Row
+    requires { ⌜ 4 * slot + 4 ≤ length (now areas) ⌝ }
+    ensures { λ r. ⌜ r ≡ rowAt (now (areas .entry)) slot ⌝ }
+{
+    let at = WORDS * slot;
+    let start = areas[at];
+    let end = areas[at + 1];
+    let flags = areas[at + 2];
+    let backend = areas[at + 3];
+    Row {
+        start,
+        end,
+        flags,
+        backend,
+    }
+}
+
+fn legal_word(word: u64) -> bool
+    ensures { λ r. ⌜ r ≡ legalWord word ⌝ }
+{
+    if word == 0 {
+        return true;
+    }
+    if word < LINEAR {
+        return false;
+    }
+    word < LINEAR_END
+}
+
+fn backend_of(word: u64) -> Backend
+    requires { ⌜ legalWord word ≡ true ⌝ }
+    ensures { λ r. ⌜ r ≡ backendOf word ⌝ }
+{
+    if word == 0 {
+        return Backend::Lazy;
+    }
+    Backend::Linear((word - LINEAR) as u32)
+}
+
+impl Row {
+    // Whether these words may follow an area that ended at before, in good tables with this space.
+    fn good_after(self, space: u64, before: u64) -> bool
+        ensures { λ r. ⌜ r ≡ goodRow space before self ⌝ }
+    {
+        if self.start < before {
+            return false;
+        }
+        if (FLAGS as u64) < self.flags {
+            return false;
+        }
+        if !legal_word(self.backend) {
+            return false;
+        }
+        self.area().good_in(space)
+    }
+
+    // The area that legal words stand for.
+    fn area(self) -> Area
+        requires { ⌜ LegalRow self ⌝ }
+        ensures { λ r. ⌜ r ≡ areaOf self ⌝ }
+    {
+        let backend = backend_of(self.backend);
+        Area {
+            start: self.start,
+            end: self.end,
+            flags: self.flags as u32,
+            backend,
+        }
+    }
+}
+
+// Whether the tables are good: the words of all areas are looked at once, in order.
+pub fn good(areas: &[u64], count: usize, pages: usize) -> bool
+    ensures { λ r. ⌜ r ≡ goodTables (now (areas .entry)) count pages ⌝ }
+{
+    if MAX_PAGES < pages {
+        return false;
+    }
+    if capacity(areas.len()) < count {
+        return false;
+    }
+    let space = PAGE * (pages as u64);
+    let mut before = 0;
+    let mut slot = 0;
+    while slot < count {
+        let row = row_at(areas, slot);
+        if !row.good_after(space, before) {
+            return false;
+        }
+        before = row.end;
+        slot += 1;
+    }
+    true
+}
