@@ -33,7 +33,7 @@ row-is space before r e =
     record {
       good = good-is space (areaOf r) (every-at (rowTests space before r) 0 e);
       legal = every-at (rowTests space before r) 1 e;
-      after = leb-true before (r .start) (every-at (rowTests space before r) 2 e)
+      after = leb-true before (r .start) (every-at (rowTests space before r) 2 e);
     }
 
 pub not-row : (space before : ℕ) (r : Row) → (GoodFacts space before r → ⊥) → goodRow space before r ≡ false
@@ -107,7 +107,7 @@ tables-are ws count p e =
       pages-few = leb-true p maxPages (every-at (tableTests ws count p) 0 e);
       count-few = leb-true count (capacityOf (length ws)) (every-at (tableTests ws count p) 1 e);
       ordered = rows-ordered (spaceOf p) 0 ws count rows-good;
-      legal = rows-legal (spaceOf p) 0 ws count rows-good
+      legal = rows-legal (spaceOf p) 0 ws count rows-good;
     }
 
 pub not-tables : (ws : List ℕ) (count p : ℕ) → (GoodTables ws count p → ⊥) → goodTables ws count p ≡ false

@@ -1,3 +1,4 @@
 pub mod Goodness
 pub mod Ordered
+pub mod Positions
 pub mod Rows

@@ -1,7 +1,10 @@
 -- Lists of good areas, each starting no earlier than the one before it ends. Assumes nothing.
 use Prim.Native.Nat.{ℕ, zero, suc, _≤_, _<_}
 use mathlib.Core.List.{List, [], _∷_}
+use mathlib.Core.Path.{_≡_, ap}
 use native.Mathlib.Omega.{arith}
+use native.Mathlib.Decide.{decLt}
+use native.Mathlib.Nat.{le-of-eq}
 use lib.ListN.{length, getD}
 use Rattle.area.specs.Area.{nothing}
 use Rattle.area.specs.declared.Area.{Area}
@@ -30,3 +33,25 @@ module _ {space : ℕ} where
   apart (one-more g b o) i zero h l = absurd (omega arith)
   apart (one-more g b o) zero (suc j) h l = starts-past o j (omega arith)
   apart (one-more g b o) (suc i) (suc j) h l = apart o i j (omega arith) (omega arith)
+
+  -- so starts and ends rise
+  module _ {before : ℕ} {xs : List Area} (o : Ordered space before xs) (i j : ℕ) (h : i ≤ j) (l : j < length xs) where
+    pub starts-rise : getD xs i nothing .start ≤ getD xs j nothing .start
+    starts-rise =
+        elim (decLt i j) [
+          | yes m ↦ omega (arith, apart o i j m l, good-at o i (omega arith) .nonempty)
+          | no m ↦ le-of-eq (ap (λ (k : ℕ). getD xs k nothing .start) (equal m))
+        ]
+      where
+        equal : (i < j → ⊥) → i ≡ j
+        equal m = omega arith
+
+    pub ends-rise : getD xs i nothing .end ≤ getD xs j nothing .end
+    ends-rise =
+        elim (decLt i j) [
+          | yes m ↦ omega (arith, apart o i j m l, good-at o j l .nonempty)
+          | no m ↦ le-of-eq (ap (λ (k : ℕ). getD xs k nothing .end) (equal m))
+        ]
+      where
+        equal : (i < j → ⊥) → i ≡ j
+        equal m = omega arith

@@ -34,9 +34,10 @@ module _ (w : ℕ) (z : w ≡ 0 → ⊥) where
 
   pub linear-word : legalWord w ≡ true → (2 ^ 32 ≤ w) × (w < 2 ^ 33)
   linear-word e =
-      elim (decLe (2 ^ 32) w)
-      [ no h ↦ absurd (true≢false (sym e ∙ small-illegal (omega arith)))
-      | yes h ↦ (h, ltb-true w (2 ^ 33) (sym (linear-legal h) ∙ e)) ]
+      elim (decLe (2 ^ 32) w) [
+        | no h ↦ absurd (true≢false (sym e ∙ small-illegal (omega arith)))
+        | yes h ↦ (h, ltb-true w (2 ^ 33) (sym (linear-legal h) ∙ e))
+      ]
 
 pub lazy-backend : (w : ℕ) → w ≡ 0 → backendOf w ≡ Lazy
 unfolding backendOf

@@ -8,12 +8,18 @@ use page_table::entry::FLAGS;
 ghost use mathlib.Core.Path.{_≡_};
 ghost use mathlib.Core.Bool.{true};
 ghost use Prim.Native.Nat.{_+_, _*_, _<_, _≤_};
-ghost use lib.ListN.{length};
-ghost use Rattle.area_list.specs.Layout.{capacityOf, rowAt, areaOf, legalWord, backendOf, LegalRow};
+ghost use lib.ListN.{length, getD};
+ghost use Rattle.area.specs.Area.{nothing};
+ghost use Rattle.area_list.specs.Layout.{capacityOf, rowAt, areaOf, legalWord, backendOf, LegalRow, rows};
 ghost use Rattle.area_list.specs.Good.{goodRow, goodTables};
+ghost use Rattle.area_list.specs.Position.{SortedRows, Rising, Boundary, firstWhere, endsPast, startsFrom};
 
 // Words an area takes.
 const WORDS: usize = 4;
+// Where in an area's words its start and its end lie.
+const START: usize = 0;
+
+const END: usize = 1;
 // The most areas that a table may have.
 const MAX_AREAS: usize = 256;
 // A linear backend's word is this plus its delta.
@@ -131,4 +137,51 @@ pub fn good(areas: &[u64], count: usize, pages: usize) -> bool
         slot += 1;
     }
     true
+}
+
+// The area at a slot.
+pub fn area_at(areas: &[u64], count: usize, slot: usize) -> Area
+    requires { ⌜ SortedRows (now areas) count ⌝ }
+    requires { ⌜ slot < count ⌝ }
+    ensures { λ r. ⌜ r ≡ getD (rows (now (areas .entry)) count) slot nothing ⌝ }
+{
+    row_at(areas, slot).area()
+}
+
+// The first slot whose word in a rising column is above a value, or count.
+fn first_above(areas: &[u64], count: usize, column: usize, value: u64) -> usize
+    requires { ⌜ Rising (now areas) count column ⌝ }
+    ensures { λ r. ⌜ Boundary (now (areas .entry)) count column value r ⌝ }
+{
+    let mut low = 0;
+    let mut high = count;
+    while low < high {
+        let middle = low + (high - low) / 2;
+        let word = areas[WORDS * middle + column];
+        if word <= value {
+            low = middle + 1;
+        } else {
+            high = middle;
+        }
+    }
+    low
+}
+
+// The first area that ends past an address, or count.
+pub fn first_ending_past(areas: &[u64], count: usize, address: u64) -> usize
+    requires { ⌜ SortedRows (now areas) count ⌝ }
+    ensures { λ r. ⌜ r ≡ firstWhere (endsPast address) (rows (now (areas .entry)) count) ⌝ }
+{
+    first_above(areas, count, END, address)
+}
+
+// The first area that starts at or past an address, or count.
+pub fn first_starting_from(areas: &[u64], count: usize, address: u64) -> usize
+    requires { ⌜ SortedRows (now areas) count ⌝ }
+    ensures { λ r. ⌜ r ≡ firstWhere (startsFrom address) (rows (now (areas .entry)) count) ⌝ }
+{
+    if address == 0 {
+        return 0;
+    }
+    first_above(areas, count, START, address - 1)
 }

@@ -58,9 +58,10 @@ loop-less c = omega arith
 
 loop-again : tie.Need-loop-again Inv-loop μ-loop
 loop-again c =
-    let turn = c .before .before .before in
-    (turn .before .loop .inv .0,
-    turn .before .loop .inv .1 ∙ good-row _ _ _ _ _ _ (turn .loop-test .taken) (c .before .before .row-at .ensures) (sym (c .before .good-after .ensures) ∙ not-false _ (c .if3 .left)))
+    let turn = c .before .before .before in (
+      turn .before .loop .inv .0,
+      turn .before .loop .inv .1 ∙ good-row _ _ _ _ _ _ (turn .loop-test .taken) (c .before .before .row-at .ensures) (sym (c .before .good-after .ensures) ∙ not-false _ (c .if3 .left)),
+    )
 
 returns-4 : tie.Need-returns-4 Inv-loop μ-loop
 returns-4 c = sym (c .before .loop .inv .1 ∙ no-rows _ _ _ _ _ (c .loop-test .left))
