@@ -1,4 +1,5 @@
 pub mod Goodness
+pub mod Meets
 pub mod Ordered
 pub mod Positions
 pub mod Rows

@@ -1,18 +1,19 @@
 -- Laws of positions: what a position parts, binary search turn by turn, and that good tables are sorted. Assumes nothing.
 use Prim.Native.Nat.{ℕ, zero, suc, _+_, _-_, _*_, _≤_, _<_}
 use mathlib.Core.Path.{_≡_, refl, sym, ap, _∙_}
-use mathlib.Core.Bool.{Bool, true, false, cond}
+use mathlib.Core.Bool.{Bool, true, false, cond, and-false}
 use mathlib.Core.List.{List, [], _∷_}
 use native.Mathlib.Omega.{arith}
-use native.Mathlib.Decide.{ℕ-discrete}
+use native.Mathlib.Decide.{decLt}
 use native.Mathlib.Nat.{le-trans, add-zero}
+use lib.Dec.{leb}
 use lib.ListN.{length, getD}
-use borrow.Author.Tests.{lt-ltb, le-ltb, le-leb, lt-leb}
+use borrow.Author.Tests.{lt-ltb, le-ltb, le-leb, lt-leb, ltb-true, ltb-false}
 use Rattle.area.specs.Area.{nothing}
 use Rattle.area.specs.declared.Area.{Area}
 use Rattle.area_list.specs.Layout.{wordsPerArea, LegalRow, rowAt, areaOf, rows}
-use Rattle.area_list.specs.Position.{firstWhere, endsPast, startsFrom, Rising, Boundary, SortedRows}
-use Rattle.area_list.proofs.Ordered.{Ordered, starts-rise, ends-rise}
+use Rattle.area_list.specs.Position.{firstWhere, endsPast, startsFrom, contains, Rising, Boundary, SortedRows}
+use Rattle.area_list.proofs.Ordered.{Ordered, good-at, starts-rise, ends-rise}
 use Rattle.area_list.proofs.Rows.{row-words, length-rows, rows-at}
 use Rattle.area_list.proofs.Goodness.{GoodTables, count-fits}
 
@@ -142,6 +143,69 @@ sorted {ws} {count} {p} g =
     record {
       room = count-fits ws count (g .count-few);
       legal = g .legal;
+      nonempty = λ i l. rw (rows-at ws count i l) at (good-at (g .ordered) i (omega (arith, length-rows ws count)) .nonempty);
       starts = λ i j h l. rw (rows-at ws count i (omega arith), rows-at ws count j l) at (starts-rise (g .ordered) i j h (omega (arith, length-rows ws count)));
       ends = λ i j h l. rw (rows-at ws count i (omega arith), rows-at ws count j l) at (ends-rise (g .ordered) i j h (omega (arith, length-rows ws count)));
     }
+
+-- ---- the area that holds an address
+
+pub contains-yes : (address : ℕ) (a : Area) → a .start ≤ address → address < a .end → contains address a ≡ true
+unfolding contains
+contains-yes address a s e = rw (le-leb (a .start) address s, lt-ltb address (a .end) e)
+
+pub contains-before : (address : ℕ) (a : Area) → a .end ≤ address → contains address a ≡ false
+unfolding contains
+contains-before address a h = rw (le-ltb address (a .end) h) (and-false (leb (a .start) address))
+
+pub contains-after : (address : ℕ) (a : Area) → address < a .start → contains address a ≡ false
+unfolding contains
+contains-after address a h = rw (lt-leb (a .start) address h)
+
+-- a list without empty areas whose starts rise
+pub record Rises (xs : List Area) : Type 0 where
+  pub starts : (i j : ℕ) → i ≤ j → j < length xs → getD xs i nothing .start ≤ getD xs j nothing .start
+  pub nonempty : (i : ℕ) → i < length xs → getD xs i nothing .start < getD xs i nothing .end
+
+pub rows-rise : {ws : List ℕ} {count : ℕ} → SortedRows ws count → Rises (rows ws count)
+rows-rise {ws} {count} s =
+    record {
+      starts = λ i j h l. let m : j < count = omega (arith, length-rows ws count) in
+          rw (rows-at ws count i (omega arith), rows-at ws count j m) (s .starts i j h m);
+      nonempty = λ i l. let m : i < count = omega (arith, length-rows ws count) in rw (rows-at ws count i m) (s .nonempty i m);
+    }
+
+-- what the first area that ends past an address tells: areas before it end at or before the address, and it does not
+module _ (xs : List Area) (address r : ℕ) (e : r ≡ firstWhere (endsPast address) xs) where
+  found : First (endsPast address) xs r
+  found = rw e (first (endsPast address) xs)
+
+  pub ended : (k : ℕ) → k < r → getD xs k nothing .end ≤ address
+  unfolding endsPast
+  ended k h = ltb-false address (getD xs k nothing .end) (found .fails k h)
+
+  pub not-ended : r < length xs → address < getD xs r nothing .end
+  unfolding endsPast
+  not-ended h = ltb-true address (getD xs r nothing .end) (found .passes h)
+
+  -- so it decides which area holds the address
+  pub holds-none : length xs ≤ r → length xs ≡ firstWhere (contains address) xs
+  holds-none h =
+      first-is (contains address) xs (length xs) (omega arith)
+      (λ k l. contains-before address (getD xs k nothing) (ended k (omega arith)))
+      (λ l. absurd (omega arith))
+
+  pub holds-at : r < length xs → getD xs r nothing .start ≤ address → r ≡ firstWhere (contains address) xs
+  holds-at h s =
+      first-is (contains address) xs r (omega arith)
+      (λ k l. contains-before address (getD xs k nothing) (ended k l))
+      (λ l. contains-yes address (getD xs r nothing) s (not-ended h))
+
+  pub holds-gap : Rises xs → r < length xs → address < getD xs r nothing .start → length xs ≡ firstWhere (contains address) xs
+  holds-gap rises h s =
+      first-is (contains address) xs (length xs) (omega arith)
+      (λ k l. elim (decLt k r) [
+        | yes m ↦ contains-before address (getD xs k nothing) (ended k m)
+        | no m ↦ contains-after address (getD xs k nothing) (omega (arith, rises .starts r k (omega arith) l))
+      ])
+      (λ l. absurd (omega arith))

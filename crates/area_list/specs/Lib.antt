@@ -1,3 +1,4 @@
 pub mod Good
 pub mod Layout
+pub mod Meet
 pub mod Position

@@ -1,7 +1,7 @@
 -- Positions in the list of areas, and what a list has to be for binary search. Laws: `proofs/Positions.antt`. Assumes nothing.
 use Prim.Native.Nat.{ℕ, suc, _+_, _*_, _≤_, _<_}
 use mathlib.Core.Path.{_≡_}
-use mathlib.Core.Bool.{Bool, cond}
+use mathlib.Core.Bool.{Bool, _&&_, cond}
 use mathlib.Core.List.{List, [], _∷_}
 use lib.Dec.{leb, ltb}
 use lib.ListN.{length, getD}
@@ -19,6 +19,10 @@ endsPast address a = ltb address (a .end)
 unfoldable pub startsFrom : ℕ → Area → Bool
 startsFrom address a = leb address (a .start)
 
+-- the address lies in the area
+unfoldable pub contains : ℕ → Area → Bool
+contains address a = leb (a .start) address && ltb address (a .end)
+
 -- the words at one place of each area's rise from slot to slot
 pub record Rising (ws : List ℕ) (count column : ℕ) : Type 0 where
   pub room : wordsPerArea * count ≤ length ws
@@ -31,9 +35,10 @@ pub record Boundary (ws : List ℕ) (count column value r : ℕ) : Type 0 where
   pub below : (k : ℕ) → k < r → getD ws (wordsPerArea * k + column) 0 ≤ value
   pub above : (k : ℕ) → r ≤ k → k < count → value < getD ws (wordsPerArea * k + column) 0
 
--- what good tables say of their slots: legal words, starts and ends in order
+-- what good tables say of their slots: legal words, no empty area, starts and ends in order
 pub record SortedRows (ws : List ℕ) (count : ℕ) : Type 0 where
   pub room : wordsPerArea * count ≤ length ws
   pub legal : (i : ℕ) → i < count → LegalRow (rowAt ws i)
+  pub nonempty : (i : ℕ) → i < count → rowAt ws i .start < rowAt ws i .end
   pub starts : (i j : ℕ) → i ≤ j → j < count → rowAt ws i .start ≤ rowAt ws j .start
   pub ends : (i j : ℕ) → i ≤ j → j < count → rowAt ws i .end ≤ rowAt ws j .end

@@ -12,7 +12,8 @@ ghost use lib.ListN.{length, getD};
 ghost use Rattle.area.specs.Area.{nothing};
 ghost use Rattle.area_list.specs.Layout.{capacityOf, rowAt, areaOf, legalWord, backendOf, LegalRow, rows};
 ghost use Rattle.area_list.specs.Good.{goodRow, goodTables};
-ghost use Rattle.area_list.specs.Position.{SortedRows, Rising, Boundary, firstWhere, endsPast, startsFrom};
+ghost use Rattle.area_list.specs.Position.{SortedRows, Rising, Boundary, firstWhere, endsPast, startsFrom, contains};
+ghost use Rattle.area_list.specs.Meet.{sharesAny};
 
 // Words an area takes.
 const WORDS: usize = 4;
@@ -184,4 +185,33 @@ pub fn first_starting_from(areas: &[u64], count: usize, address: u64) -> usize
         return 0;
     }
     first_above(areas, count, START, address - 1)
+}
+
+// The area that holds an address, or count.
+pub fn first_holding(areas: &[u64], count: usize, address: u64) -> usize
+    requires { ⌜ SortedRows (now areas) count ⌝ }
+    ensures { λ r. ⌜ r ≡ firstWhere (contains address) (rows (now (areas .entry)) count) ⌝ }
+{
+    let slot = first_ending_past(areas, count, address);
+    if count <= slot {
+        return count;
+    }
+    let area = area_at(areas, count, slot);
+    if area.start <= address { slot } else { count }
+}
+
+// Whether some area has an address of the range in it.
+pub fn any_overlap(areas: &[u64], count: usize, low: u64, high: u64) -> bool
+    requires { ⌜ SortedRows (now areas) count ⌝ }
+    ensures { λ r. ⌜ r ≡ sharesAny low high (rows (now (areas .entry)) count) ⌝ }
+{
+    if high <= low {
+        return false;
+    }
+    let slot = first_ending_past(areas, count, low);
+    if count <= slot {
+        return false;
+    }
+    let area = area_at(areas, count, slot);
+    area.start < high
 }
