@@ -3,7 +3,7 @@ use Prim.Native.Nat.{ℕ, zero, suc}
 use mathlib.Core.Path.{_≡_, refl, sym, ap, _∙_}
 use mathlib.Core.Bool.{Bool, true, false}
 use mathlib.Core.List.{List, _∷_}
-use Rattle.area.specs.Answer.{number, Test, refuse, answer}
+use Rattle.area.specs.Answer.{number, Test, refuse, answer, Reply, reply, replyBy}
 use Rattle.area.specs.declared.Answer.{Answer}
 use Rattle.area.specs.declared.Answer.the-variants.{Accepted, BadTables, NotAligned, InvalidParam, AlreadyExists, BadState, NoRoom, NotFound}
 
@@ -15,6 +15,36 @@ applies k b ts e = rw e
 pub passes : (k : ℕ) (b : Bool) (ts : List Test) → b ≡ false → answer (refuse k b ∷ ts) ≡ answer ts
 unfolding answer
 passes k b ts e = rw e
+
+reply-other : {A : Type 0} (refused : A) (n : ℕ) (value : A) → (n ≡ 0 → ⊥) → reply n refused ≡ replyBy refused n value
+unfolding replyBy
+reply-other refused zero value h = absurd (h refl)
+reply-other refused (suc n) value h = refl
+
+reply-number : {A : Type 0} (refused : A) (n : ℕ) (value : A) → replyBy refused n value .answer ≡ n
+unfolding replyBy
+reply-number refused zero value = refl
+reply-number refused (suc n) value = refl
+
+-- an answer with a value, accepted and refused
+module _ {A : Type 0} (refused : A) (n : ℕ) (value : A) where
+  pub reply-accepted : n ≡ 0 → reply n value ≡ replyBy refused n value
+  unfolding replyBy
+  reply-accepted z = rw z
+
+  pub reply-refused : (n ≡ 0 → ⊥) → reply n refused ≡ replyBy refused n value
+  reply-refused h = reply-other refused n value h
+
+  pub reply-zero : n ≡ 0 → reply 0 value ≡ replyBy refused n value
+  unfolding replyBy
+  reply-zero z = rw z
+
+  pub reply-suc : (k : ℕ) → n ≡ suc k → reply (suc k) refused ≡ replyBy refused n value
+  unfolding replyBy
+  reply-suc k e = rw e
+
+  pub reply-answer : replyBy refused n value .answer ≡ n
+  reply-answer = reply-number refused n value
 
 -- no two answers have one number
 nameOf : ℕ → Answer

@@ -1,5 +1,5 @@
 -- Laws of the cuts: each answer from its test, and what an accepted cut tells. Assumes nothing.
-use Prim.Native.Nat.{ℕ, zero, suc, _+_, _-_, _%_, _≤_, _<_}
+use Prim.Native.Nat.{ℕ, _+_, _-_, _%_, _≤_, _<_}
 use mathlib.Core.Path.{_≡_, refl, sym, ap, _∙_}
 use mathlib.Core.Bool.{Bool, true, false, not, _&&_, and-false}
 use native.Mathlib.Omega.{arith}
@@ -7,13 +7,13 @@ use native.Mathlib.Decide.{decLt, ℕ-discrete}
 use lib.Dec.{ltb, eqb}
 use borrow.Author.Tests.{lt-ltb, le-ltb, eq-eqb, ne-eqb}
 use Rattle.page_table.specs.Limits.{pageSize}
-use Rattle.area.specs.Answer.{answer}
+use Rattle.area.specs.Answer.{answer, Reply, reply}
 use Rattle.area.specs.Area.{aligned, goodArea, largestSpace, part, nothing}
-use Rattle.area.specs.Cut.{cutTests, cutAnswer, SplitOutcome, ShrunkOutcome, splitGives, splitOutcome, shrunkOutcome, splitBy, splitRule, shrunkGives, shrinkBy, sizeAnswer, shrinkLeftRule, shrinkRightRule}
+use Rattle.area.specs.Cut.{cutTests, cutAnswer, Pair, pair, splitOutcome, splitRule, shrunkOutcome, sizeAnswer, shrinkLeftRule, shrinkRightRule}
 use Rattle.area.specs.declared.Area.{Area}
 use Rattle.area.specs.declared.Split.{Split}
 use Rattle.area.specs.declared.Shrunk.{Shrunk}
-use Rattle.area.proofs.Answers.{number-inj}
+use Rattle.area.proofs.Answers.{reply-accepted, reply-refused, reply-answer, number-inj}
 use Rattle.area.proofs.Areas.{Good, Halves, good-is, part-good, halves}
 
 -- the tests in their order: each section adds that one more did not apply
@@ -66,32 +66,14 @@ accepted-cut a cut low high z = first (goodArea largestSpace a) refl
 
 -- ---- the rules at each answer
 
-split-zero : (n : ℕ) (a : Area) (at : ℕ) → n ≡ 0 → splitGives n (part a (a .start) at) (part a at (a .end)) ≡ splitBy n a at
-unfolding splitBy
-split-zero n a at z = rw z
-
-split-other : (n : ℕ) (a : Area) (at : ℕ) → (n ≡ 0 → ⊥) → splitGives n a nothing ≡ splitBy n a at
-unfolding splitBy
-split-other zero a at h = absurd (h refl)
-split-other (suc n) a at h = refl
-
 module _ (a : Area) (at n : ℕ) (e : n ≡ cutAnswer a at (a .start) (a .end)) where
-  pub split-accepted : n ≡ 0 → splitGives n (part a (a .start) at) (part a at (a .end)) ≡ splitRule a at
+  pub split-accepted : n ≡ 0 → reply n (pair (part a (a .start) at) (part a at (a .end))) ≡ splitRule a at
   unfolding splitRule
-  split-accepted z = split-zero n a at z ∙ ap (λ (k : ℕ). splitBy k a at) e
+  split-accepted z = rw (← e) (reply-accepted (pair a nothing) n (pair (part a (a .start) at) (part a at (a .end))) z)
 
-  pub split-refused : (n ≡ 0 → ⊥) → splitGives n a nothing ≡ splitRule a at
+  pub split-refused : (n ≡ 0 → ⊥) → reply n (pair a nothing) ≡ splitRule a at
   unfolding splitRule
-  split-refused z = split-other n a at z ∙ ap (λ (k : ℕ). splitBy k a at) e
-
-shrink-zero : (n : ℕ) (a shrunk : Area) → n ≡ 0 → shrunkGives n shrunk ≡ shrinkBy n a shrunk
-unfolding shrinkBy
-shrink-zero n a shrunk z = rw z
-
-shrink-other : (n : ℕ) (a shrunk : Area) → (n ≡ 0 → ⊥) → shrunkGives n a ≡ shrinkBy n a shrunk
-unfolding shrinkBy
-shrink-other zero a shrunk h = absurd (h refl)
-shrink-other (suc n) a shrunk h = refl
+  split-refused z = rw (← e) (reply-refused (pair a nothing) n (pair (part a (a .start) at) (part a at (a .end))) z)
 
 module _ (a : Area) (size n old : ℕ) (o : old ≡ a .end - a .start) (e : n ≡ cutAnswer a size 0 old) where
   sized : n ≡ sizeAnswer a size
@@ -101,35 +83,30 @@ module _ (a : Area) (size n old : ℕ) (o : old ≡ a .end - a .start) (e : n �
   pub shorter : n ≡ 0 → a .start + size < a .end
   shorter z = let i = accepted-cut a size 0 old (sym e ∙ z) in omega arith
 
-  pub left-accepted : n ≡ 0 → shrunkGives n (part a (a .end - size) (a .end)) ≡ shrinkLeftRule a size
+  pub left-accepted : n ≡ 0 → reply n (part a (a .end - size) (a .end)) ≡ shrinkLeftRule a size
   unfolding shrinkLeftRule
-  left-accepted z = rw (← sized) (shrink-zero n a (part a (a .end - size) (a .end)) z)
+  left-accepted z = rw (← sized) (reply-accepted a n (part a (a .end - size) (a .end)) z)
 
-  pub left-refused : (n ≡ 0 → ⊥) → shrunkGives n a ≡ shrinkLeftRule a size
+  pub left-refused : (n ≡ 0 → ⊥) → reply n a ≡ shrinkLeftRule a size
   unfolding shrinkLeftRule
-  left-refused z = rw (← sized) (shrink-other n a (part a (a .end - size) (a .end)) z)
+  left-refused z = rw (← sized) (reply-refused a n (part a (a .end - size) (a .end)) z)
 
-  pub right-accepted : n ≡ 0 → shrunkGives n (part a (a .start) (a .start + size)) ≡ shrinkRightRule a size
+  pub right-accepted : n ≡ 0 → reply n (part a (a .start) (a .start + size)) ≡ shrinkRightRule a size
   unfolding shrinkRightRule
-  right-accepted z = rw (← sized) (shrink-zero n a (part a (a .start) (a .start + size)) z)
+  right-accepted z = rw (← sized) (reply-accepted a n (part a (a .start) (a .start + size)) z)
 
-  pub right-refused : (n ≡ 0 → ⊥) → shrunkGives n a ≡ shrinkRightRule a size
+  pub right-refused : (n ≡ 0 → ⊥) → reply n a ≡ shrinkRightRule a size
   unfolding shrinkRightRule
-  right-refused z = rw (← sized) (shrink-other n a (part a (a .start) (a .start + size)) z)
+  right-refused z = rw (← sized) (reply-refused a n (part a (a .start) (a .start + size)) z)
 
 -- ---- what an accepted split gives: two good areas, which together give each page the entry that the whole gave it
 
-pub record SplitParts (a : Area) (s : SplitOutcome) : Type 0 where
+pub record SplitParts (a : Area) (s : Pair) : Type 0 where
   pub left-good : Good largestSpace (s .left)
   pub right-good : Good largestSpace (s .right)
   pub pages : Halves a (s .left) (s .right)
 
-split-answer : (n : ℕ) (a : Area) (at : ℕ) → splitBy n a at .answer ≡ n
-unfolding splitBy
-split-answer zero a at = refl
-split-answer (suc n) a at = refl
-
-pub split-parts : (a : Area) (at : ℕ) → splitRule a at .answer ≡ 0 → SplitParts a (splitRule a at)
+pub split-parts : (a : Area) (at : ℕ) → splitRule a at .answer ≡ 0 → SplitParts a (splitRule a at .value)
 unfolding splitRule
 split-parts a at z =
     rw (← split-accepted a at 0 (sym answered) refl)
@@ -140,7 +117,7 @@ split-parts a at z =
     })
   where
     answered : cutAnswer a at (a .start) (a .end) ≡ 0
-    answered = sym (split-answer (cutAnswer a at (a .start) (a .end)) a at) ∙ z
+    answered = sym (reply-answer (pair a nothing) (cutAnswer a at (a .start) (a .end)) (pair (part a (a .start) at) (part a at (a .end)))) ∙ z
 
     inside : Inside a at (a .start) (a .end)
     inside = accepted-cut a at (a .start) (a .end) answered
@@ -149,8 +126,8 @@ split-parts a at z =
 
 pub split-unique : (r s : Split) → splitOutcome r ≡ splitOutcome s → r ≡ s
 split-unique r s e i =
-    record { answer = number-inj (r .answer) (s .answer) (ap (λ (o : SplitOutcome). o .answer) e) i; left = e i .left; right = e i .right }
+    record { answer = number-inj (r .answer) (s .answer) (ap (λ (o : Reply Pair). o .answer) e) i; left = e i .value .left; right = e i .value .right }
 
 pub shrunk-unique : (r s : Shrunk) → shrunkOutcome r ≡ shrunkOutcome s → r ≡ s
 shrunk-unique r s e i =
-    record { answer = number-inj (r .answer) (s .answer) (ap (λ (o : ShrunkOutcome). o .answer) e) i; area = e i .area }
+    record { answer = number-inj (r .answer) (s .answer) (ap (λ (o : Reply Area). o .answer) e) i; area = e i .value }
