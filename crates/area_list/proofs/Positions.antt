@@ -29,11 +29,11 @@ first-is p (a ∷ xs) (suc r) h f t =
     ap suc (first-is p xs r (omega arith) (λ k l. f (suc k) (omega arith)) (λ l. t (omega arith))) ∙ sym (rw (f 0 (omega arith)))
 
 -- the other way round: it is in the list or at its end, every area before it fails, and the one at it passes
-first-yes : (p : Area → Bool) (a : Area) (xs : List Area) → p a ≡ true → firstWhere p (a ∷ xs) ≡ 0
+pub first-yes : (p : Area → Bool) (a : Area) (xs : List Area) → p a ≡ true → firstWhere p (a ∷ xs) ≡ 0
 unfolding firstWhere
 first-yes p a xs e = rw e
 
-first-no : (p : Area → Bool) (a : Area) (xs : List Area) → p a ≡ false → firstWhere p (a ∷ xs) ≡ suc (firstWhere p xs)
+pub first-no : (p : Area → Bool) (a : Area) (xs : List Area) → p a ≡ false → firstWhere p (a ∷ xs) ≡ suc (firstWhere p xs)
 unfolding firstWhere
 first-no p a xs e = rw e
 

@@ -1,0 +1,4 @@
+pub mod Multiples
+pub mod Pass
+pub mod Powers
+pub mod Search
