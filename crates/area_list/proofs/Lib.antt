@@ -3,3 +3,4 @@ pub mod Meets
 pub mod Ordered
 pub mod Positions
 pub mod Rows
+pub mod Stores

@@ -2,3 +2,4 @@ pub mod Good
 pub mod Layout
 pub mod Meet
 pub mod Position
+pub mod Store

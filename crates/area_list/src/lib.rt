@@ -1,5 +1,5 @@
 // The lent area table, a sorted list of areas as words: how the words lie is known here and nowhere above. This crate tests
-// whether tables are good, reads an area and finds positions.
+// whether tables are good, reads an area and finds positions; `slots` puts areas in the place of others.
 use area::Area;
 use page_table::Backend;
 use page_table::MAX_PAGES;
@@ -10,10 +10,12 @@ ghost use mathlib.Core.Bool.{true};
 ghost use Prim.Native.Nat.{_+_, _*_, _<_, _≤_};
 ghost use lib.ListN.{length, getD};
 ghost use Rattle.area.specs.Area.{nothing};
-ghost use Rattle.area_list.specs.Layout.{capacityOf, rowAt, areaOf, legalWord, backendOf, LegalRow, rows};
+ghost use Rattle.area_list.specs.Layout.{wordsPerArea, capacityOf, rowAt, areaOf, legalWord, backendOf, LegalRow, rows};
 ghost use Rattle.area_list.specs.Good.{goodRow, goodTables};
 ghost use Rattle.area_list.specs.Position.{SortedRows, Rising, Boundary, firstWhere, endsPast, startsFrom, contains};
 ghost use Rattle.area_list.specs.Meet.{sharesAny};
+
+pub mod slots;
 
 // Words an area takes.
 const WORDS: usize = 4;
@@ -46,7 +48,7 @@ pub fn capacity(words: usize) -> usize
 
 // The words of the area at a slot.
 fn row_at(areas: &[u64], slot: usize) -> Row
-    requires { ⌜ 4 * slot + 4 ≤ length (now areas) ⌝ }
+    requires { ⌜ wordsPerArea * slot + wordsPerArea ≤ length (now areas) ⌝ }
     ensures { λ r. ⌜ r ≡ rowAt (now (areas .entry)) slot ⌝ }
 {
     let at = WORDS * slot;

@@ -1,3 +1,4 @@
 pub mod Each
 pub mod Every
+pub mod Over
 pub mod Sweep

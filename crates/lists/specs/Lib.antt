@@ -1,3 +1,4 @@
 pub mod Case
 pub mod Each
 pub mod Every
+pub mod Over
