@@ -4,8 +4,8 @@ use mathlib.Core.List.{List, [], _∷_}
 use mathlib.Core.Path.{_≡_, ap}
 use native.Mathlib.Omega.{arith}
 use native.Mathlib.Decide.{decLt}
-use native.Mathlib.Nat.{le-of-eq}
-use lib.ListN.{length, getD}
+use native.Mathlib.Nat.{le-of-eq, le-refl, le-trans}
+use lib.ListN.{length, getD, drop}
 use Rattle.area.specs.Area.{nothing}
 use Rattle.area.specs.declared.Area.{Area}
 use Rattle.area.proofs.Areas.{Good}
@@ -13,6 +13,11 @@ use Rattle.area.proofs.Areas.{Good}
 pub data Ordered (space : ℕ) : ℕ → List Area → Type 0 where
   none-left : {before : ℕ} → Ordered space before []
   one-more : {before : ℕ} {a : Area} {xs : List Area} → Good space a → before ≤ a .start → Ordered space (a .end) xs → Ordered space before (a ∷ xs)
+
+-- it may follow an earlier end
+pub weaken : {space before before′ : ℕ} {xs : List Area} → Ordered space before xs → before′ ≤ before → Ordered space before′ xs
+weaken none-left h = none-left
+weaken (one-more g b o) h = one-more g (le-trans h b) o
 
 module _ {space : ℕ} where
   pub good-at : {before : ℕ} {xs : List Area} → Ordered space before xs → (i : ℕ) → i < length xs → Good space (getD xs i nothing)
@@ -55,3 +60,14 @@ module _ {space : ℕ} where
       where
         equal : (i < j → ⊥) → i ≡ j
         equal m = omega arith
+
+  -- from any slot on, and after it
+  pub ordered-from : {before : ℕ} {xs : List Area} → Ordered space before xs → (i : ℕ) → i < length xs → Ordered space (getD xs i nothing .start) (drop i xs)
+  ordered-from none-left i h = absurd (omega arith)
+  ordered-from (one-more {a = a} g b o) zero h = one-more g (le-refl (a .start)) o
+  ordered-from (one-more g b o) (suc i) h = ordered-from o i (omega arith)
+
+  pub ordered-after : {before : ℕ} {xs : List Area} → Ordered space before xs → (i : ℕ) → i < length xs → Ordered space (getD xs i nothing .end) (drop (suc i) xs)
+  ordered-after none-left i h = absurd (omega arith)
+  ordered-after (one-more g b o) zero h = o
+  ordered-after (one-more g b o) (suc i) h = ordered-after o i (omega arith)

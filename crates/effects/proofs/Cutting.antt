@@ -6,7 +6,6 @@ use mathlib.Core.Bool.{Bool, true, false, _||_, cond, true≢false}
 use mathlib.Core.List.{List, [], _∷_, _++_, flatMap, append-assoc, append-nil}
 use native.Mathlib.Omega.{arith}
 use native.Mathlib.Decide.{decLt, decLe}
-use native.Mathlib.Nat.{le-trans}
 use lib.Dec.{leb, ltb}
 use lib.ListN.{length, take, drop}
 use borrow.Author.Tests.{lt-ltb, le-ltb, le-leb, lt-leb}
@@ -16,7 +15,7 @@ use Rattle.area.specs.declared.Area.{Area}
 use Rattle.area.proofs.Areas.{Good, part-good}
 use Rattle.area_list.specs.Position.{firstWhere, endsPast}
 use Rattle.area_list.specs.Meet.{shares, sharesAny}
-use Rattle.area_list.proofs.Ordered.{Ordered, none-left, one-more}
+use Rattle.area_list.proofs.Ordered.{Ordered, none-left, one-more, weaken}
 use Rattle.area_list.proofs.Positions.{first-yes, first-no}
 use Rattle.area_list.proofs.Meets.{shares-yes, shares-before, shares-after, shares-nothing}
 use Rattle.effects.specs.Lists.{piece, leftPiece, rightPiece, outside, cut, insert}
@@ -226,11 +225,6 @@ module _ (low high : ℕ) (n : low < high) (a : Area) (e : a .start ≡ low) whe
   insert-is xs o = ap (insert a) (cut-is low high n xs o) ∙ insert-at xs o
 
 -- ---- a good list stays good
-
--- it may follow an earlier end
-pub weaken : {space before before′ : ℕ} {xs : List Area} → Ordered space before xs → before′ ≤ before → Ordered space before′ xs
-weaken none-left h = none-left
-weaken (one-more g b o) h = one-more g (le-trans h b) o
 
 module _ {space : ℕ} (low high : ℕ) (p : low % pageSize ≡ 0) (q : high % pageSize ≡ 0) where
   -- what is left of an area, before a list that follows it

@@ -1,3 +1,4 @@
+pub mod Cases
 pub mod Multiples
 pub mod Pass
 pub mod Powers

@@ -1,21 +1,25 @@
 -- The calls that ask and change nothing (01, "The calls"). Each rule is total: an answer number, which is the first test that
 -- applies, and the other values of the answer; "any other number in its answer is 0, and any yes or no is no" in a refusal.
 -- Laws: `proofs/Questions.antt`. Assumes nothing.
-use Prim.Native.Nat.{ℕ, _+_, _-_}
-use mathlib.Core.Bool.{Bool, false}
+use Prim.Native.Nat.{ℕ, zero, suc, _+_, _-_, _%_}
+use mathlib.Core.Bool.{Bool, false, not}
 use mathlib.Core.List.{List, [], _∷_}
-use lib.Dec.{eqb, leb}
-use lib.ListN.{getD, take, drop}
-use Rattle.area.specs.Answer.{number, refuse, answer, Reply, reply, replyBy}
+use lib.Dec.{eqb, leb, ltb}
+use lib.ListN.{length, getD, take, drop}
+use Rattle.page_table.specs.Limits.{pageSize}
+use Rattle.area.specs.Answer.{number, Test, refuse, answer, Reply, reply, replyBy}
 use Rattle.area.specs.Area.{firstPage, endPage, nothing}
 use Rattle.area.specs.declared.Area.{Area}
 use Rattle.area_list.specs.Layout.{rows}
 use Rattle.area_list.specs.Position.{firstWhere, contains}
 use Rattle.area_list.specs.Meet.{sharesAny}
+use Rattle.area_list.specs.Good.{spaceOf}
+use Rattle.search.specs.Free.{isPowerOfTwo, asked, FreeOutcome, freeRule}
 use Rattle.set.specs.Tests.{badTables, tablesAnswer, rangeAnswer}
 use Rattle.set.specs.declared.Counted.{Counted}
 use Rattle.set.specs.declared.Told.{Told}
 use Rattle.set.specs.declared.Found.{Found}
+use Rattle.set.specs.declared.Placed.{Placed}
 
 -- ---- len and empty: "The count; whether it is 0"
 
@@ -62,3 +66,34 @@ entriesOf area pages = take (endPage area - firstPage area) (drop (firstPage are
 
 unfoldable pub entriesRule : List ℕ → List ℕ → ℕ → ℕ → List ℕ
 entriesRule areas pages count address = entriesOf (findRule areas pages count address .value) pages
+
+-- ---- free-area search: "The lowest address that is a multiple of align, at least hint and limit start, with address + size within
+-- limit end and the space, meeting no area"; 7 for "no free address"
+
+-- "Search alone tests 3 before 2: 3 for align no power of two or below 4,096, size 0, or limit start above limit end"; 2 for "size
+-- no multiple of align"
+unfoldable pub searchTests : List ℕ → List ℕ → ℕ → ℕ → ℕ → ℕ → ℕ → List Test
+searchTests areas pages count size limitStart limitEnd align =
+    badTables areas pages count
+    ∷ refuse 3 (not (isPowerOfTwo align))
+    ∷ refuse 3 (ltb align pageSize)
+    ∷ refuse 3 (eqb size 0)
+    ∷ refuse 3 (ltb limitEnd limitStart)
+    ∷ refuse 2 (not (eqb (size % align) 0))
+    ∷ []
+
+unfoldable pub searchAnswer : List ℕ → List ℕ → ℕ → ℕ → ℕ → ℕ → ℕ → ℕ
+searchAnswer areas pages count size limitStart limitEnd align = answer (searchTests areas pages count size limitStart limitEnd align)
+
+abbrev pub placedOutcome : Placed → Reply ℕ
+placedOutcome r = reply (number (r .answer)) (r .at)
+
+-- what the search found, or address 0 where a test refused
+unfoldable pub placedBy : ℕ → FreeOutcome → Reply ℕ
+placedBy zero found = reply (found .answer) (found .at)
+placedBy (suc n) found = reply (suc n) 0
+
+unfoldable pub freeAreaRule : List ℕ → List ℕ → ℕ → ℕ → ℕ → ℕ → ℕ → ℕ → Reply ℕ
+freeAreaRule areas pages count hint size limitStart limitEnd align =
+    placedBy (searchAnswer areas pages count size limitStart limitEnd align)
+    (freeRule (rows areas count) (asked hint size limitStart limitEnd align (spaceOf (length pages))))

@@ -7,11 +7,14 @@ use area_list::area_at;
 use area_list::first_holding;
 use area_list::good;
 use page_table::PAGE;
+use search::Free;
+use search::lowest_free;
+use search::power_of_two;
 ghost use mathlib.Core.Path.{_≡_};
 ghost use lib.ListN.{length};
 ghost use Rattle.area.specs.Answer.{number};
 ghost use Rattle.set.specs.Tests.{rangeAnswer};
-ghost use Rattle.set.specs.Question.{lenOutcome, lenRule, toldOutcome, emptyRule, overlapsRule, foundOutcome, findRule, entriesRule};
+ghost use Rattle.set.specs.Question.{lenOutcome, lenRule, toldOutcome, emptyRule, overlapsRule, foundOutcome, findRule, entriesRule, searchAnswer, placedOutcome, freeAreaRule};
 
 // A number, 0 in a refusal.
 pub struct Counted {
@@ -29,6 +32,12 @@ pub struct Told {
 pub struct Found {
     pub answer: Answer,
     pub area: Area,
+}
+
+// An address, 0 in a refusal.
+pub struct Placed {
+    pub answer: Answer,
+    pub at: u64,
 }
 
 // The number of areas.
@@ -134,4 +143,74 @@ pub fn entries<'a>(areas: &[u64], pages: &'a [u32], count: usize, address: u64) 
     let first = (area.start / PAGE) as usize;
     let end = (area.end / PAGE) as usize;
     &pages[first..end]
+}
+
+// What the tests of a search answer. It alone tests InvalidParam before NotAligned.
+fn search_answer(
+    areas: &[u64],
+    pages: &[u32],
+    count: usize,
+    size: u64,
+    limit_start: u64,
+    limit_end: u64,
+    align: u64,
+) -> Answer
+    ensures { λ r. ⌜ number r ≡ searchAnswer (now (areas .entry)) (now (pages .entry)) count size «limit_start» «limit_end» align ⌝ }
+{
+    if !good(areas, count, pages.len()) {
+        return Answer::BadTables;
+    }
+    if !power_of_two(align) {
+        return Answer::InvalidParam;
+    }
+    if align < PAGE {
+        return Answer::InvalidParam;
+    }
+    if size == 0 {
+        return Answer::InvalidParam;
+    }
+    if limit_end < limit_start {
+        return Answer::InvalidParam;
+    }
+    if size % align != 0 {
+        return Answer::NotAligned;
+    }
+    Answer::Accepted
+}
+
+// The lowest address that is a multiple of align, at least hint and limit_start, with address + size within limit_end and the
+// space, meeting no area.
+pub fn find_free_area(
+    areas: &[u64],
+    pages: &[u32],
+    count: usize,
+    hint: u64,
+    size: u64,
+    limit_start: u64,
+    limit_end: u64,
+    align: u64,
+) -> Placed
+    ensures { λ r. ⌜ placedOutcome r ≡ freeAreaRule (now (areas .entry)) (now (pages .entry)) count hint size «limit_start» «limit_end» align ⌝ }
+{
+    let answer = search_answer(areas, pages, count, size, limit_start, limit_end, align);
+    if !answer.accepted() {
+        return Placed { answer, at: 0 };
+    }
+    let free = lowest_free(
+        areas,
+        count,
+        pages.len(),
+        hint,
+        size,
+        limit_start,
+        limit_end,
+        align,
+    );
+    match free {
+        Free::At(at) => Placed { answer, at },
+        Free::Nowhere => {
+            let answer = Answer::NotFound;
+            Placed { answer, at: 0 }
+        }
+    }
 }
