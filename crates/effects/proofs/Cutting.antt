@@ -103,10 +103,10 @@ from-here address a xs h = rw (first-yes (endsPast address) a xs (past address a
 from-next : (address : ℕ) (a : Area) (xs : List Area) → a .end ≤ address → fromPast address (a ∷ xs) ≡ fromPast address xs
 from-next address a xs h = rw (first-no (endsPast address) a xs (not-past address a h))
 
-trimmed-here : (high : ℕ) (a : Area) (xs : List Area) → a .start < high → trimmed high (a ∷ xs) ≡ part a high (a .end) ∷ xs
+pub trimmed-here : (high : ℕ) (a : Area) (xs : List Area) → a .start < high → trimmed high (a ∷ xs) ≡ part a high (a .end) ∷ xs
 trimmed-here high a xs h = rw (lt-ltb (a .start) high h)
 
-trimmed-none : (high : ℕ) (a : Area) (xs : List Area) → high ≤ a .start → trimmed high (a ∷ xs) ≡ a ∷ xs
+pub trimmed-none : (high : ℕ) (a : Area) (xs : List Area) → high ≤ a .start → trimmed high (a ∷ xs) ≡ a ∷ xs
 trimmed-none high a xs h = rw (le-ltb (a .start) high h)
 
 cut-skips : (low high : ℕ) → low < high → (a : Area) (xs : List Area) → a .end ≤ low → cut low high xs ≡ byPositions low high xs

@@ -1,0 +1,128 @@
+// The work of the calls that change the tables, for good tables and arguments that have been tested: which slots a range
+// cuts, and what becomes of the entries of the pages in it.
+use area::Area;
+use area_list::area_at;
+use area_list::first_ending_past;
+use page_table::PAGE;
+use page_table::wipe;
+ghost use mathlib.Core.Path.{_≡_};
+ghost use mathlib.Core.Bool.{true, false};
+ghost use Prim.Native.Nat.{min, max, _<_};
+ghost use lib.ListN.{length, drop};
+ghost use Rattle.area_list.specs.Layout.{rows};
+ghost use Rattle.area_list.specs.Good.{goodTables};
+ghost use Rattle.area_list.specs.Position.{SortedRows};
+ghost use Rattle.effects.specs.Pages.{cutPages};
+ghost use Rattle.effects.proofs.Cutting.{leftOf};
+ghost use Rattle.changes.specs.Gap.{pieceOf, RightOf, Cuts};
+
+// A part of an area, or nothing.
+pub struct Piece {
+    pub some: bool,
+    pub area: Area,
+}
+
+// The slots from low up to high that a range of addresses cuts, and what stays of the first and of the last area in them.
+pub struct Gap {
+    pub low: usize,
+    pub high: usize,
+    pub left: Piece,
+    pub right: Piece,
+}
+
+fn earlier(a: u64, b: u64) -> u64
+    ensures { λ r. ⌜ r ≡ min a b ⌝ }
+{
+    if a < b { a } else { b }
+}
+
+fn later(a: u64, b: u64) -> u64
+    ensures { λ r. ⌜ r ≡ max a b ⌝ }
+{
+    if a < b { b } else { a }
+}
+
+// Makes the pages unmapped that lie in areas and in the range.
+pub fn wipe_areas(areas: &[u64], pages: &mut [u32], count: usize, low: u64, high: u64)
+    requires { ⌜ goodTables (now areas) count (length (now pages)) ≡ true ⌝ }
+    ensures { λ _. ⌜ now (pages .exit) ≡ cutPages low high (rows (now (areas .entry)) count) (now (pages .entry)) ⌝ }
+{
+    let mut slot = first_ending_past(areas, count, low);
+    while slot < count {
+        let area = area_at(areas, count, slot);
+        if high <= area.start {
+            return;
+        }
+        let first = (later(low, area.start) / PAGE) as usize;
+        let end = (earlier(high, area.end) / PAGE) as usize;
+        wipe(pages, first, end);
+        slot += 1;
+    }
+}
+
+fn no_piece() -> Piece
+    ensures { λ r. ⌜ r .some ≡ false ⌝ }
+{
+    let area = Area::nothing();
+    Piece { some: false, area }
+}
+
+// What the area at a slot, if there is one, has before an address.
+fn left_piece(areas: &[u64], count: usize, slot: usize, address: u64) -> Piece
+    requires { ⌜ SortedRows (now areas) count ⌝ }
+    ensures { λ r. ⌜ pieceOf r ≡ leftOf address (drop slot (rows (now (areas .entry)) count)) ⌝ }
+{
+    if count <= slot {
+        return no_piece();
+    }
+    let area = area_at(areas, count, slot);
+    if address <= area.start {
+        return no_piece();
+    }
+    let left = area.part(area.start, address);
+    Piece {
+        some: true,
+        area: left,
+    }
+}
+
+// What the area at a slot, if there is one and it starts before an address, has from there on.
+fn right_piece(areas: &[u64], count: usize, slot: usize, address: u64) -> Piece
+    requires { ⌜ SortedRows (now areas) count ⌝ }
+    ensures { λ r. ⌜ RightOf (rows (now (areas .entry)) count) slot address r ⌝ }
+{
+    if count <= slot {
+        return no_piece();
+    }
+    let area = area_at(areas, count, slot);
+    if address <= area.start {
+        return no_piece();
+    }
+    let right = area.part(address, area.end);
+    Piece {
+        some: true,
+        area: right,
+    }
+}
+
+// The slots that the range from low up to high cuts:
+//
+//         [   range   ]
+// [ left  |  ] [ ] [  | right ]
+pub fn find_gap(areas: &[u64], count: usize, low: u64, high: u64) -> Gap
+    requires { ⌜ SortedRows (now areas) count ⌝ }
+    requires { ⌜ low < high ⌝ }
+    ensures { λ r. ⌜ Cuts (rows (now (areas .entry)) count) low high r ⌝ }
+{
+    let from = first_ending_past(areas, count, low);
+    let upto = first_ending_past(areas, count, high);
+    let left = left_piece(areas, count, from, low);
+    let right = right_piece(areas, count, upto, high);
+    let past = if right.some { upto + 1 } else { upto };
+    Gap {
+        low: from,
+        high: past,
+        left,
+        right,
+    }
+}
