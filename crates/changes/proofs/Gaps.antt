@@ -10,12 +10,14 @@ use lib.ListN.{length, getD, take, drop, drop-of-length-le}
 use borrow.Author.Tests.{lt-ltb, le-ltb}
 use Rattle.area.specs.Area.{part, nothing}
 use Rattle.area.specs.declared.Area.{Area}
+use Rattle.area_list.specs.Store.{partsOf, spliced}
+use Rattle.area_list.specs.declared.slots.Parts.{Parts}
 use Rattle.area_list.specs.Position.{firstWhere, endsPast}
 use Rattle.area_list.proofs.Ordered.{Ordered}
 use Rattle.area_list.proofs.Positions.{First, first, ended, not-ended}
 use Rattle.effects.specs.Lists.{piece, cut, insert}
 use Rattle.effects.proofs.Cutting.{leftOf, trimmed, left-yes, left-no, trimmed-here, trimmed-none, cut-is, insert-is}
-use Rattle.changes.specs.Gap.{pieceOf, taken, RightOf, Cuts}
+use Rattle.changes.specs.Gap.{pieceOf, taken, RightOf, Cuts, Lays}
 use Rattle.changes.specs.declared.Piece.{Piece}
 use Rattle.changes.specs.declared.Gap.{Gap}
 use Rattle.effects.proofs.Sweeping.{from-slot}
@@ -95,3 +97,19 @@ module _ (xs : List Area) (low high from upto : ℕ) (n : low < high) (i : from 
         ordered = omega (arith, gap-ordered xs low high n);
         inside = rw e past-inside;
       }
+
+-- ---- the list around a gap
+
+module _ {space before : ℕ} (xs : List Area) (low high : ℕ) (o : Ordered space before xs) (n : low < high) (g : Gap) (c : Cuts xs low high g) where
+  -- without what the range cuts out
+  pub gap-cut : (p : Parts) → Lays p (pieceOf (g .left) ++ pieceOf (g .right)) → spliced xs (g .low) (g .high) (partsOf p) ≡ cut low high xs
+  gap-cut p l =
+      rw (l .areas, append-assoc (pieceOf (g .left)) (pieceOf (g .right)) (drop (g .high) xs), c .right-is, c .left-is, c .low-is)
+      (sym (cut-is low high n xs o))
+
+  -- with an area in its place
+  pub gap-insert : (a : Area) (p : Parts) → a .start ≡ low → Lays p (pieceOf (g .left) ++ (a ∷ pieceOf (g .right)))
+      → spliced xs (g .low) (g .high) (partsOf p) ≡ insert a (cut low high xs)
+  gap-insert a p e l =
+      rw (l .areas, append-assoc (pieceOf (g .left)) (a ∷ pieceOf (g .right)) (drop (g .high) xs), c .right-is, c .left-is, c .low-is)
+      (sym (insert-is low high n a e xs o))

@@ -6,6 +6,8 @@ use mathlib.Core.Bool.{cond}
 use mathlib.Core.List.{List, _++_}
 use lib.ListN.{length, drop}
 use Rattle.area.specs.declared.Area.{Area}
+use Rattle.area_list.specs.Store.{partsOf}
+use Rattle.area_list.specs.declared.slots.Parts.{Parts}
 use Rattle.area_list.specs.Position.{firstWhere, endsPast}
 use Rattle.effects.specs.Lists.{piece}
 use Rattle.effects.proofs.Cutting.{leftOf, trimmed}
@@ -30,3 +32,11 @@ pub record Cuts (list : List Area) (low high : ℕ) (g : Gap) : Type 0 where
   pub right-is : pieceOf (g .right) ++ drop (g .high) list ≡ trimmed high (drop (firstWhere (endsPast high) list) list)
   pub ordered : g .low ≤ g .high
   pub inside : g .high ≤ length list
+
+-- parts that are the areas of a list
+pub record Lays (p : Parts) (list : List Area) : Type 0 where
+  pub few : p .number ≤ 3
+  pub areas : partsOf p ≡ list
+
+abbrev pub partsWith : ℕ → Area → Area → Area → Parts
+partsWith number first second third = record { number = number; first = first; second = second; third = third }

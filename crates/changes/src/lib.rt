@@ -3,18 +3,20 @@
 use area::Area;
 use area_list::area_at;
 use area_list::first_ending_past;
+use area_list::slots::Parts;
 use page_table::PAGE;
 use page_table::wipe;
 ghost use mathlib.Core.Path.{_≡_};
 ghost use mathlib.Core.Bool.{true, false};
 ghost use Prim.Native.Nat.{min, max, _<_};
+ghost use mathlib.Core.List.{_∷_, _++_};
 ghost use lib.ListN.{length, drop};
 ghost use Rattle.area_list.specs.Layout.{rows};
 ghost use Rattle.area_list.specs.Good.{goodTables};
 ghost use Rattle.area_list.specs.Position.{SortedRows};
 ghost use Rattle.effects.specs.Pages.{cutPages};
 ghost use Rattle.effects.proofs.Cutting.{leftOf};
-ghost use Rattle.changes.specs.Gap.{pieceOf, RightOf, Cuts};
+ghost use Rattle.changes.specs.Gap.{pieceOf, RightOf, Cuts, Lays, partsWith};
 
 // A part of an area, or nothing.
 pub struct Piece {
@@ -124,5 +126,56 @@ pub fn find_gap(areas: &[u64], count: usize, low: u64, high: u64) -> Gap
         high: past,
         left,
         right,
+    }
+}
+
+// What stays on both sides of a gap.
+pub fn sides(gap: Gap) -> Parts
+    ensures { λ r. ⌜ Lays r (pieceOf (gap .left) ++ pieceOf (gap .right)) ⌝ }
+{
+    let left = gap.left;
+    let right = gap.right;
+    let before = left.area;
+    let after = right.area;
+    if left.some {
+        if right.some {
+            return parts(2, before, after, after);
+        }
+        return parts(1, before, before, before);
+    }
+    if right.some {
+        return parts(1, after, after, after);
+    }
+    parts(0, after, after, after)
+}
+
+// What stays on both sides of a gap, and an area between them.
+pub fn around(gap: Gap, area: Area) -> Parts
+    ensures { λ r. ⌜ Lays r (pieceOf (gap .left) ++ (area ∷ pieceOf (gap .right))) ⌝ }
+{
+    let left = gap.left;
+    let right = gap.right;
+    let before = left.area;
+    let after = right.area;
+    if left.some {
+        if right.some {
+            return parts(3, before, area, after);
+        }
+        return parts(2, before, area, area);
+    }
+    if right.some {
+        return parts(2, area, after, after);
+    }
+    parts(1, area, area, area)
+}
+
+fn parts(number: usize, first: Area, second: Area, third: Area) -> Parts
+    ensures { λ r. ⌜ r ≡ partsWith number first second third ⌝ }
+{
+    Parts {
+        number,
+        first,
+        second,
+        third,
     }
 }
