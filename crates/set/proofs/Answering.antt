@@ -8,10 +8,12 @@ use native.Mathlib.Decide.{ℕ-discrete, decLe}
 use lib.Dec.{ltb, eqb}
 use lib.ListN.{length}
 use borrow.Author.Tests.{lt-ltb, le-ltb, eq-eqb, ne-eqb}
-use Rattle.page_table.specs.Limits.{pageSize}
+use Rattle.page_table.specs.Limits.{pageSize, maxPages}
 use Rattle.area.specs.Answer.{answer}
 use Rattle.area.specs.Area.{aligned}
 use Rattle.area_list.specs.Good.{spaceOf, goodTables}
+use Rattle.area_list.specs.Layout.{maxAreas, capacityOf}
+use Rattle.area_list.proofs.Goodness.{tables-are}
 use Rattle.set.specs.Tests.{tablesAnswer, rangeAnswer}
 
 -- ---- calls without arguments
@@ -74,3 +76,14 @@ range-by areas pages count start size true g e =
 
 pub range-is : (areas pages : List ℕ) (count start size : ℕ) → rangeAnswer areas pages count start size ≡ 0 → Range areas pages count start size
 range-is areas pages count start size e = range-by areas pages count start size (goodTables areas count (length pages)) refl e
+
+-- the numbers of an accepted range are small: no sum of them wraps
+pub record Small (pages : List ℕ) (count start size : ℕ) : Type 0 where
+  pub sum : start + size ≤ spaceOf maxPages
+  pub areas : count ≤ maxAreas
+
+pub range-small : {areas pages : List ℕ} {count start size : ℕ} → Range areas pages count start size → Small pages count start size
+unfolding capacityOf
+range-small {areas} {pages} {count} {start} {size} r =
+    let g = tables-are areas count (length pages) (r .tables) in
+    record { sum = omega arith; areas = omega arith }

@@ -1,2 +1,3 @@
+pub mod Change
 pub mod Question
 pub mod Tests

@@ -4,8 +4,13 @@ use area::Answer;
 use area::Area;
 use area_list::any_overlap;
 use area_list::area_at;
+use area_list::capacity;
 use area_list::first_holding;
 use area_list::good;
+use area_list::slots::splice;
+use changes::find_gap;
+use changes::sides;
+use changes::wipe_areas;
 use page_table::PAGE;
 use search::Free;
 use search::lowest_free;
@@ -13,6 +18,7 @@ use search::power_of_two;
 ghost use mathlib.Core.Path.{_≡_};
 ghost use lib.ListN.{length};
 ghost use Rattle.area.specs.Answer.{number};
+ghost use Rattle.set.specs.Change.{changedOutcome, unmapRule};
 ghost use Rattle.set.specs.Tests.{rangeAnswer};
 ghost use Rattle.set.specs.Question.{lenOutcome, lenRule, toldOutcome, emptyRule, overlapsRule, foundOutcome, findRule, entriesRule, searchAnswer, placedOutcome, freeAreaRule};
 
@@ -38,6 +44,12 @@ pub struct Found {
 pub struct Placed {
     pub answer: Answer,
     pub at: u64,
+}
+
+// What a change answers, and the count afterwards: the old one in a refusal.
+pub struct Changed {
+    pub answer: Answer,
+    pub count: usize,
 }
 
 // The number of areas.
@@ -213,4 +225,30 @@ pub fn find_free_area(
             Placed { answer, at: 0 }
         }
     }
+}
+
+// Removes all mappings in a range. Areas inside it vanish, others lose the part inside, and one that surrounds it becomes two.
+pub fn unmap(areas: &mut [u64], pages: &mut [u32], count: usize, start: u64, size: u64) -> Changed
+    ensures { λ r. ⌜ changedOutcome r (now (areas .exit)) (now (pages .exit)) ≡ unmapRule (now (areas .entry)) (now (pages .entry)) count start size ⌝ }
+{
+    let answer = range_answer(areas, pages, count, start, size);
+    if !answer.accepted() {
+        return Changed { answer, count };
+    }
+    if size == 0 {
+        return Changed { answer, count };
+    }
+    let end = start + size;
+    let gap = find_gap(areas, count, start, end);
+    let parts = sides(gap);
+    let left = gap.low + parts.number + (count - gap.high);
+    if capacity(areas.len()) < left {
+        return Changed {
+            answer: Answer::NoRoom,
+            count,
+        };
+    }
+    wipe_areas(areas, pages, count, start, end);
+    let count = splice(areas, count, gap.low, gap.high, parts);
+    Changed { answer, count }
 }
