@@ -9,7 +9,7 @@ use page_table::wipe;
 ghost use mathlib.Core.Path.{_≡_};
 ghost use mathlib.Core.Bool.{true, false};
 ghost use Prim.Native.Nat.{min, max, _<_};
-ghost use mathlib.Core.List.{_∷_, _++_};
+ghost use mathlib.Core.List.{[], _∷_, _++_};
 ghost use lib.ListN.{length, drop};
 ghost use Rattle.area_list.specs.Layout.{rows};
 ghost use Rattle.area_list.specs.Good.{goodTables};
@@ -167,6 +167,14 @@ pub fn around(gap: Gap, area: Area) -> Parts
         return parts(2, area, after, after);
     }
     parts(1, area, area, area)
+}
+
+// No area at all.
+pub fn no_parts() -> Parts
+    ensures { λ r. ⌜ Lays r [] ⌝ }
+{
+    let area = Area::nothing();
+    parts(0, area, area, area)
 }
 
 fn parts(number: usize, first: Area, second: Area, third: Area) -> Parts

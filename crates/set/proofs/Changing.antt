@@ -4,17 +4,23 @@ use mathlib.Core.Path.{_≡_, refl, sym, ap, _∙_}
 use mathlib.Core.Bool.{Bool, true, false, not, _&&_, cond}
 use mathlib.Core.List.{List, [], _∷_, _++_}
 use native.Mathlib.Omega.{arith}
-use lib.Dec.{ltb}
-use lib.ListN.{length}
-use borrow.Author.Tests.{lt-ltb, le-ltb}
-use Rattle.lists.proofs.Each.{within-none}
-use Rattle.page_table.specs.Limits.{pageSize}
+use native.Mathlib.Decide.{ℕ-discrete}
+use lib.Dec.{ltb, eqb}
+use lib.ListN.{length, drop-of-length-le}
+use borrow.Author.Tests.{lt-ltb, le-ltb, eq-eqb, ne-eqb}
+use Rattle.lists.specs.Each.{within}
+use Rattle.lists.proofs.Each.{length-within, within-in, within-before, within-after, within-is, within-none}
+use Rattle.page_table.specs.Limits.{pageSize, maxFlags}
+use Rattle.page_table.specs.Change.{writes}
+use Rattle.page_table.specs.Frames.{backendFits}
+use Rattle.page_table.specs.declared.Backend.{Backend}
 use Rattle.area.specs.Answer.{answer, Test, refuse, Reply, reply, replyBy}
 use Rattle.area.specs.Area.{aligned}
 use Rattle.area.specs.declared.Area.{Area}
 use Rattle.area.proofs.Answers.{reply-accepted, reply-refused, reply-zero, reply-suc}
 use Rattle.area_list.specs.Layout.{maxAreas, capacityOf, rows}
 use Rattle.area_list.specs.Good.{spaceOf, goodTables}
+use Rattle.area_list.specs.Meet.{sharesAny}
 use Rattle.area_list.specs.Store.{store, partsOf, spliced}
 use Rattle.area_list.specs.declared.slots.Parts.{Parts}
 use Rattle.area_list.proofs.Rows.{length-rows}
@@ -22,40 +28,44 @@ use Rattle.area_list.proofs.Goodness.{GoodTables, tables-are}
 use Rattle.area_list.proofs.Positions.{sorted}
 use Rattle.area_list.proofs.Stores.{store-same, length-parts, length-spliced}
 use Rattle.effects.specs.Lists.{cut}
-use Rattle.effects.specs.Pages.{onAreas, wipesArea, cutPages}
+use Rattle.effects.specs.Pages.{onAreas, wipesArea, cutPages, mapPages}
 use Rattle.effects.proofs.Cutting.{cut-empty}
 use Rattle.changes.specs.Gap.{pieceOf, Cuts, Lays}
 use Rattle.changes.specs.declared.Gap.{Gap}
-use Rattle.changes.proofs.Gaps.{gap-cut}
+use Rattle.changes.proofs.Gaps.{gap-cut, gap-insert}
 use Rattle.set.specs.Tests.{rangeTests, rangeAnswer}
-use Rattle.set.specs.Change.{tables, listed, noRoom, unmapList, unmapTests, unmapRule}
-use Rattle.set.proofs.Answering.{Range, range-is, range-small}
+use Rattle.set.specs.Change.{tables, listed, noRoom, unmapList, unmapTests, unmapRule, clearRule, mapped, mapList, mapFirstTests, mapFirstAnswer, mapTests, mapRule}
+use Rattle.set.proofs.Answering.{tables-bad, tables-good, Range, range-is, range-small}
 
--- ---- tests after those of the range: they count where none of the range's applies
+-- ---- tests after a list of tests: they count where none of the list applies
 
-abbrev three : Bool → Bool → Bool → ℕ → ℕ
-three a b c k = cond a 1 (cond b 2 (cond c 3 k))
+data Refuses : List Test → Type 0 where
+  no-test : Refuses []
+  one-test : (k : ℕ) (b : Bool) {ts : List Test} → 0 < k → Refuses ts → Refuses (refuse k b ∷ ts)
 
-three-then : (a b c : Bool) (k : ℕ) → three a b c 0 ≡ 0 → three a b c k ≡ k
-three-then true b c k e = absurd (omega arith)
-three-then false true c k e = absurd (omega arith)
-three-then false false true k e = absurd (omega arith)
-three-then false false false k e = refl
+answer-then : {ts : List Test} (us : List Test) → Refuses ts → answer ts ≡ 0 → answer (ts ++ us) ≡ answer us
+unfolding answer
+answer-then us no-test e = refl
+answer-then us (one-test k true p r) e = absurd (omega arith)
+answer-then us (one-test k false p r) e = answer-then us r e
 
-three-stop : (a b c : Bool) (k : ℕ) → (three a b c 0 ≡ 0 → ⊥) → three a b c k ≡ three a b c 0
-three-stop true b c k h = refl
-three-stop false true c k h = refl
-three-stop false false true k h = refl
-three-stop false false false k h = absurd (h refl)
+answer-stops : {ts : List Test} (us : List Test) → Refuses ts → (answer ts ≡ 0 → ⊥) → answer (ts ++ us) ≡ answer ts
+unfolding answer
+answer-stops us no-test h = absurd (h refl)
+answer-stops us (one-test k true p r) h = refl
+answer-stops us (one-test k false p r) h = answer-stops us r h
+
+range-refuses : (areas pages : List ℕ) (count start size : ℕ) → Refuses (rangeTests areas pages count start size)
+range-refuses areas pages count start size = one-test 1 _ (omega arith) (one-test 2 _ (omega arith) (one-test 3 _ (omega arith) no-test))
 
 module _ (areas pages : List ℕ) (count start size : ℕ) (us : List Test) where
   range-then : rangeAnswer areas pages count start size ≡ 0 → answer (rangeTests areas pages count start size ++ us) ≡ answer us
-  unfolding rangeAnswer answer
-  range-then e = three-then (not (goodTables areas count (length pages))) (not (aligned start && aligned size)) (ltb (spaceOf (length pages)) (start + size)) (answer us) e
+  unfolding rangeAnswer
+  range-then e = answer-then us (range-refuses areas pages count start size) e
 
   range-stops : (rangeAnswer areas pages count start size ≡ 0 → ⊥) → answer (rangeTests areas pages count start size ++ us) ≡ rangeAnswer areas pages count start size
-  unfolding rangeAnswer answer
-  range-stops h = three-stop (not (goodTables areas count (length pages))) (not (aligned start && aligned size)) (ltb (spaceOf (length pages)) (start + size)) (answer us) h
+  unfolding rangeAnswer
+  range-stops h = answer-stops us (range-refuses areas pages count start size) h
 
 room-no : (areas : List ℕ) (list : List Area) → capacityOf (length areas) < length list → answer (noRoom areas list ∷ []) ≡ 6
 unfolding answer
@@ -81,6 +91,22 @@ pub gap-fits : {areas pages : List ℕ} {count start size low high : ℕ} {g : G
     → Cuts (rows areas count) low high g → Lays p list → GapFits count (g .low) (g .high) (p .number)
 gap-fits {areas} {pages} {count} r c l =
     record { ordered = c .ordered; inside = rw length-rows at (c .inside); few = l .few; small = range-small r .areas }
+
+-- what was in a range does not matter to what is written over it
+write-over : (f : ℕ → ℕ → ℕ) (backend : Backend) (flags first end : ℕ) (pages : List ℕ)
+    → within (writes backend flags) first end (within f first end pages) ≡ within (writes backend flags) first end pages
+unfolding writes
+write-over f backend flags first end pages =
+    within-is (writes backend flags) first end pages (within (writes backend flags) first end old) (length-within (writes backend flags) first end old ∙ length-within f first end pages)
+    (λ k l a. within-before (writes backend flags) first end old k (long k l) a ∙ within-before f first end pages k l a)
+    (λ k l a b. within-in (writes backend flags) first end old k (long k l) a b)
+    (λ k l a. within-after (writes backend flags) first end old k (long k l) a ∙ within-after f first end pages k l a)
+  where
+    old : List ℕ
+    old = within f first end pages
+
+    long : (k : ℕ) → k < length pages → k < length (within f first end pages)
+    long k l = omega (arith, length-within f first end pages)
 
 -- ---- unmap
 
@@ -133,3 +159,137 @@ module _ (areas pages : List ℕ) (count start size n : ℕ) (e : n ≡ rangeAns
       unmap-done areas′ pages′ count′ h a b d =
           rw (z, a, b, d, ← unmap-count, list-is)
           (reply-zero _ _ _ (after ∙ room-yes areas (unmapList areas count start size) (rw unmap-count h)))
+
+-- ---- clear
+
+pub none-laid : {p : Parts} → Lays p [] → p .number ≡ 0
+none-laid {p} l = sym (length-parts p (l .few)) ∙ ap length (l .areas)
+
+module _ (areas pages : List ℕ) (count : ℕ) where
+  pub clear-refused : goodTables areas count (length pages) ≡ false → reply 1 (tables areas pages count) ≡ clearRule areas pages count
+  unfolding clearRule
+  clear-refused g = reply-suc _ _ _ 0 (tables-bad areas pages count g)
+
+  pub clear-done : goodTables areas count (length pages) ≡ true → (p : Parts) → Lays p []
+      → (areas′ pages′ : List ℕ) (count′ : ℕ) → areas′ ≡ store (spliced (rows areas count) 0 count (partsOf p)) areas count
+      → pages′ ≡ cutPages 0 (spaceOf (length pages)) (rows areas count) pages → count′ ≡ 0 + p .number + (count - count)
+      → reply 0 (tables areas′ pages′ count′) ≡ clearRule areas pages count
+  unfolding clearRule
+  clear-done g p l areas′ pages′ count′ a b c =
+      rw (a, b, counted, l .areas, drop-of-length-le (rows areas count) {i = count} (omega (arith, length-rows areas count)))
+      (reply-zero _ _ _ (tables-good areas pages count g))
+    where
+      counted : count′ ≡ 0
+      counted = c ∙ omega (arith, none-laid l)
+
+-- ---- map: the tests before the one for room, each section adding that one more did not apply
+
+module _ (areas pages : List ℕ) (count start size flags : ℕ) (backend : Backend) (replace : Bool) where
+  abbrev map-first : ℕ
+  map-first = mapFirstAnswer areas pages count start size flags backend replace
+
+  more-tests : List Test
+  more-tests =
+      refuse 3 (eqb size 0)
+      ∷ refuse 3 (ltb maxFlags flags)
+      ∷ refuse 4 (not replace && sharesAny start (start + size) (rows areas count))
+      ∷ refuse 5 (not (backendFits backend (start / pageSize) ((start + size) / pageSize)))
+      ∷ []
+
+  pub map-range : (rangeAnswer areas pages count start size ≡ 0 → ⊥) → map-first ≡ rangeAnswer areas pages count start size
+  unfolding mapFirstAnswer more-tests
+  map-range h = range-stops areas pages count start size more-tests h
+
+  module _ (z : rangeAnswer areas pages count start size ≡ 0) where
+    others : map-first ≡ answer more-tests
+    unfolding mapFirstAnswer more-tests
+    others = range-then areas pages count start size more-tests z
+
+    pub map-empty : size ≡ 0 → map-first ≡ 3
+    unfolding more-tests answer
+    map-empty e = others ∙ rw (eq-eqb size 0 e)
+
+    module _ (s : size ≡ 0 → ⊥) where
+      pub map-flags : maxFlags < flags → map-first ≡ 3
+      unfolding more-tests answer
+      map-flags h = others ∙ rw (ne-eqb size 0 s, lt-ltb maxFlags flags h)
+
+      module _ (f : flags ≤ maxFlags) where
+        pub map-exists : (not replace && sharesAny start (start + size) (rows areas count)) ≡ true → map-first ≡ 4
+        unfolding more-tests answer
+        map-exists h = others ∙ rw (ne-eqb size 0 s, le-ltb maxFlags flags f, h)
+
+        module _ (x : (not replace && sharesAny start (start + size) (rows areas count)) ≡ false) where
+          pub map-frames : backendFits backend (start / pageSize) ((start + size) / pageSize) ≡ false → map-first ≡ 5
+          unfolding more-tests answer
+          map-frames h = others ∙ rw (ne-eqb size 0 s, le-ltb maxFlags flags f, x, h)
+
+          pub map-passes : backendFits backend (start / pageSize) ((start + size) / pageSize) ≡ true → map-first ≡ 0
+          unfolding more-tests answer
+          map-passes h = others ∙ rw (ne-eqb size 0 s, le-ltb maxFlags flags f, x, h)
+
+  -- what passing them tells
+  pub record MapPassed : Type 0 where
+    pub range : Range areas pages count start size
+    pub some : 0 < size
+
+  pub map-passed : map-first ≡ 0 → MapPassed
+  map-passed e =
+      elim (ℕ-discrete (rangeAnswer areas pages count start size) 0) [
+        | no h ↦ absurd (h (sym (map-range h) ∙ e))
+        | yes z ↦ elim (ℕ-discrete size 0) [
+          | yes s ↦ absurd (let f : map-first ≡ 3 = map-empty z s in omega arith)
+          | no s ↦ record { range = range-is areas pages count start size z; some = omega arith }
+        ]
+      ]
+
+  -- ---- map's outcome at each exit
+
+  first-refuses : Refuses (mapFirstTests areas pages count start size flags backend replace)
+  first-refuses =
+      one-test 1 _ (omega arith) (one-test 2 _ (omega arith) (one-test 3 _ (omega arith)
+      (one-test 3 _ (omega arith) (one-test 3 _ (omega arith) (one-test 4 _ (omega arith) (one-test 5 _ (omega arith) no-test))))))
+
+  abbrev new-area : Area
+  new-area = mapped start size flags backend
+
+  abbrev room-test : List Test
+  room-test = noRoom areas (mapList areas count new-area) ∷ []
+
+  module _ (n : ℕ) (e : n ≡ map-first) where
+    pub map-refused : (n ≡ 0 → ⊥) → reply n (tables areas pages count) ≡ mapRule areas pages count start size flags backend replace
+    unfolding mapRule mapFirstAnswer
+    map-refused h = rw (answer-stops room-test first-refuses (rw e at h), ← e) (reply-refused _ _ _ h)
+
+    module _ (z : n ≡ 0) where
+      after-first : answer (mapTests areas pages count start size flags backend replace) ≡ answer room-test
+      unfolding mapFirstAnswer
+      after-first = answer-then room-test first-refuses (sym e ∙ z)
+
+      passed : MapPassed
+      passed = map-passed (sym e ∙ z)
+
+      module _ (g : Gap) (c : Cuts (rows areas count) start (start + size) g) (p : Parts) (l : Lays p (pieceOf (g .left) ++ (new-area ∷ pieceOf (g .right)))) where
+        map-list : spliced (rows areas count) (g .low) (g .high) (partsOf p) ≡ mapList areas count new-area
+        map-list =
+            gap-insert (rows areas count) start (start + size) (tables-are areas count (length pages) (passed .range .tables) .ordered) (omega (arith, passed .some)) g c new-area p refl l
+
+        map-count : length (mapList areas count new-area) ≡ g .low + p .number + (count - g .high)
+        map-count =
+            ap length (sym map-list)
+            ∙ length-spliced (rows areas count) (g .low) (g .high) (partsOf p) (c .ordered) (c .inside)
+            ∙ rw (length-parts p (l .few), length-rows areas count)
+
+        pub map-no-room : capacityOf (length areas) < g .low + p .number + (count - g .high) → reply 6 (tables areas pages count) ≡ mapRule areas pages count start size flags backend replace
+        unfolding mapRule
+        map-no-room h = reply-suc _ _ _ 5 (after-first ∙ room-no areas (mapList areas count new-area) (rw map-count h))
+
+        pub map-done : (areas′ pages′ : List ℕ) (count′ : ℕ) → g .low + p .number + (count - g .high) ≤ capacityOf (length areas)
+            → areas′ ≡ store (spliced (rows areas count) (g .low) (g .high) (partsOf p)) areas count
+            → pages′ ≡ within (writes backend flags) (start / pageSize) ((start + size) / pageSize) pages → count′ ≡ g .low + p .number + (count - g .high)
+            → reply n (tables areas′ pages′ count′) ≡ mapRule areas pages count start size flags backend replace
+        unfolding mapRule mapPages cutPages
+        map-done areas′ pages′ count′ h a b d =
+            rw (z, a, b, d, ← map-count, map-list)
+            (ap (reply 0) (ap (λ (ps : List ℕ). listed (mapList areas count new-area) areas ps count) (sym (write-over (onAreas wipesArea (rows areas count)) backend flags (start / pageSize) ((start + size) / pageSize) pages)))
+            ∙ reply-zero _ _ _ (after-first ∙ room-yes areas (mapList areas count new-area) (rw map-count h)))

@@ -70,16 +70,22 @@ abbrev pub mapList : List ℕ → ℕ → Area → List Area
 mapList areas count a = insert a (cut (a .start) (a .end) (rows areas count))
 
 -- after the range's tests: 3 "map of size 0; flags .. above 15", 4 "map without replacing meets an area", 5 "linear map with any
--- frame at or above 2^24", 6
-abbrev pub mapTests : List ℕ → List ℕ → ℕ → ℕ → ℕ → ℕ → Backend → Bool → List Test
-mapTests areas pages count start size flags backend replace =
+-- frame at or above 2^24"; then 6
+abbrev pub mapFirstTests : List ℕ → List ℕ → ℕ → ℕ → ℕ → ℕ → Backend → Bool → List Test
+mapFirstTests areas pages count start size flags backend replace =
     rangeTests areas pages count start size
     ++ (refuse 3 (eqb size 0)
     ∷ refuse 3 (ltb maxFlags flags)
     ∷ refuse 4 (not replace && sharesAny start (start + size) (rows areas count))
     ∷ refuse 5 (not (backendFits backend (start / pageSize) ((start + size) / pageSize)))
-    ∷ noRoom areas (mapList areas count (mapped start size flags backend))
     ∷ [])
+
+unfoldable pub mapFirstAnswer : List ℕ → List ℕ → ℕ → ℕ → ℕ → ℕ → Backend → Bool → ℕ
+mapFirstAnswer areas pages count start size flags backend replace = answer (mapFirstTests areas pages count start size flags backend replace)
+
+abbrev pub mapTests : List ℕ → List ℕ → ℕ → ℕ → ℕ → ℕ → Backend → Bool → List Test
+mapTests areas pages count start size flags backend replace =
+    mapFirstTests areas pages count start size flags backend replace ++ (noRoom areas (mapList areas count (mapped start size flags backend)) ∷ [])
 
 unfoldable pub mapRule : List ℕ → List ℕ → ℕ → ℕ → ℕ → ℕ → Backend → Bool → Reply Tables
 mapRule areas pages count start size flags backend replace =

@@ -8,17 +8,26 @@ use area_list::capacity;
 use area_list::first_holding;
 use area_list::good;
 use area_list::slots::splice;
+use changes::around;
 use changes::find_gap;
+use changes::no_parts;
 use changes::sides;
 use changes::wipe_areas;
+use page_table::Backend;
 use page_table::PAGE;
+use page_table::entry::FLAGS;
+use page_table::write;
 use search::Free;
 use search::lowest_free;
 use search::power_of_two;
 ghost use mathlib.Core.Path.{_≡_};
+ghost use mathlib.Core.Bool.{not, _&&_};
 ghost use lib.ListN.{length};
+ghost use Rattle.area_list.specs.Layout.{rows};
+ghost use Rattle.area_list.specs.Position.{SortedRows};
+ghost use Rattle.area_list.specs.Meet.{sharesAny};
 ghost use Rattle.area.specs.Answer.{number};
-ghost use Rattle.set.specs.Change.{changedOutcome, unmapRule};
+ghost use Rattle.set.specs.Change.{changedOutcome, unmapRule, clearRule, mapFirstAnswer, mapRule};
 ghost use Rattle.set.specs.Tests.{rangeAnswer};
 ghost use Rattle.set.specs.Question.{lenOutcome, lenRule, toldOutcome, emptyRule, overlapsRule, foundOutcome, findRule, entriesRule, searchAnswer, placedOutcome, freeAreaRule};
 
@@ -249,6 +258,113 @@ pub fn unmap(areas: &mut [u64], pages: &mut [u32], count: usize, start: u64, siz
         };
     }
     wipe_areas(areas, pages, count, start, end);
+    let count = splice(areas, count, gap.low, gap.high, parts);
+    Changed { answer, count }
+}
+
+// Removes all areas and makes all their pages unmapped.
+pub fn clear(areas: &mut [u64], pages: &mut [u32], count: usize) -> Changed
+    ensures { λ r. ⌜ changedOutcome r (now (areas .exit)) (now (pages .exit)) ≡ clearRule (now (areas .entry)) (now (pages .entry)) count ⌝ }
+{
+    if !good(areas, count, pages.len()) {
+        return Changed {
+            answer: Answer::BadTables,
+            count,
+        };
+    }
+    let space = PAGE * (pages.len() as u64);
+    wipe_areas(areas, pages, count, 0, space);
+    let count = splice(areas, count, 0, count, no_parts());
+    Changed {
+        answer: Answer::Accepted,
+        count,
+    }
+}
+
+// Whether a map that does not replace meets an area.
+fn blocked(areas: &[u64], count: usize, low: u64, high: u64, replace: bool) -> bool
+    requires { ⌜ SortedRows (now areas) count ⌝ }
+    ensures { λ r. ⌜ r ≡ (not replace && sharesAny low high (rows (now (areas .entry)) count)) ⌝ }
+{
+    if replace {
+        return false;
+    }
+    any_overlap(areas, count, low, high)
+}
+
+// What the tests of map before the one for room answer.
+fn map_answer(
+    areas: &[u64],
+    pages: &[u32],
+    count: usize,
+    start: u64,
+    size: u64,
+    flags: u32,
+    backend: Backend,
+    replace: bool,
+) -> Answer
+    ensures { λ r. ⌜ number r ≡ mapFirstAnswer (now (areas .entry)) (now (pages .entry)) count start size flags backend replace ⌝ }
+{
+    let answer = range_answer(areas, pages, count, start, size);
+    if !answer.accepted() {
+        return answer;
+    }
+    if size == 0 {
+        return Answer::InvalidParam;
+    }
+    if FLAGS < flags {
+        return Answer::InvalidParam;
+    }
+    let end = start + size;
+    if blocked(areas, count, start, end, replace) {
+        return Answer::AlreadyExists;
+    }
+    if !backend.fits((start / PAGE) as usize, (end / PAGE) as usize) {
+        return Answer::BadState;
+    }
+    Answer::Accepted
+}
+
+// Adds a mapping. One that replaces first removes all mappings in its range; neighbours are never joined.
+pub fn map(
+    areas: &mut [u64],
+    pages: &mut [u32],
+    count: usize,
+    start: u64,
+    size: u64,
+    flags: u32,
+    backend: Backend,
+    replace: bool,
+) -> Changed
+    ensures { λ r. ⌜ changedOutcome r (now (areas .exit)) (now (pages .exit)) ≡ mapRule (now (areas .entry)) (now (pages .entry)) count start size flags backend replace ⌝ }
+{
+    let answer = map_answer(areas, pages, count, start, size, flags, backend, replace);
+    if !answer.accepted() {
+        return Changed { answer, count };
+    }
+    let end = start + size;
+    let area = Area {
+        start,
+        end,
+        flags,
+        backend,
+    };
+    let gap = find_gap(areas, count, start, end);
+    let parts = around(gap, area);
+    let left = gap.low + parts.number + (count - gap.high);
+    if capacity(areas.len()) < left {
+        return Changed {
+            answer: Answer::NoRoom,
+            count,
+        };
+    }
+    write(
+        pages,
+        (start / PAGE) as usize,
+        (end / PAGE) as usize,
+        flags,
+        backend,
+    );
     let count = splice(areas, count, gap.low, gap.high, parts);
     Changed { answer, count }
 }
