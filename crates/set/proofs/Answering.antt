@@ -2,19 +2,52 @@
 use Prim.Native.Nat.{ℕ, _+_, _*_, _%_, _≤_, _<_}
 use mathlib.Core.Path.{_≡_, refl, sym, ap, _∙_}
 use mathlib.Core.Bool.{Bool, true, false, not, _&&_, and-false}
-use mathlib.Core.List.{List}
+use mathlib.Core.List.{List, [], _∷_, _++_}
 use native.Mathlib.Omega.{arith}
 use native.Mathlib.Decide.{ℕ-discrete, decLe}
 use lib.Dec.{ltb, eqb}
 use lib.ListN.{length}
 use borrow.Author.Tests.{lt-ltb, le-ltb, eq-eqb, ne-eqb}
 use Rattle.page_table.specs.Limits.{pageSize, maxPages}
-use Rattle.area.specs.Answer.{answer}
+use Rattle.area.specs.Answer.{Test, refuse, answer}
 use Rattle.area.specs.Area.{aligned}
 use Rattle.area_list.specs.Good.{spaceOf, goodTables}
 use Rattle.area_list.specs.Layout.{maxAreas, capacityOf}
 use Rattle.area_list.proofs.Goodness.{tables-are}
-use Rattle.set.specs.Tests.{tablesAnswer, rangeAnswer}
+use Rattle.set.specs.Tests.{tablesAnswer, rangeTests, rangeAnswer}
+
+-- ---- a list of tests, each with one of 01's numbers from 1 to 7
+
+pub record Refusal (k : ℕ) : Type 0 where
+  pub some : 0 < k
+  pub known : k ≤ 7
+
+pub data Refuses : List Test → Type 0 where
+  no-test : Refuses []
+  one-test : (k : ℕ) (b : Bool) {ts : List Test} → Refusal k → Refuses ts → Refuses (refuse k b ∷ ts)
+
+-- the answer is one of 01's numbers
+pub answer-known : {ts : List Test} → Refuses ts → answer ts ≤ 7
+unfolding answer
+answer-known no-test = omega arith
+answer-known (one-test k true p r) = p .known
+answer-known (one-test k false p r) = answer-known r
+
+-- tests after the list count where none of it applies
+pub answer-then : {ts : List Test} (us : List Test) → Refuses ts → answer ts ≡ 0 → answer (ts ++ us) ≡ answer us
+unfolding answer
+answer-then us no-test e = refl
+answer-then us (one-test k true p r) e = absurd (omega arith)
+answer-then us (one-test k false p r) e = answer-then us r e
+
+pub answer-stops : {ts : List Test} (us : List Test) → Refuses ts → (answer ts ≡ 0 → ⊥) → answer (ts ++ us) ≡ answer ts
+unfolding answer
+answer-stops us no-test h = absurd (h refl)
+answer-stops us (one-test k true p r) h = refl
+answer-stops us (one-test k false p r) h = answer-stops us r h
+
+pub range-refuses : (areas pages : List ℕ) (count start size : ℕ) → Refuses (rangeTests areas pages count start size)
+range-refuses areas pages count start size = one-test 1 _ (omega arith) (one-test 2 _ (omega arith) (one-test 3 _ (omega arith) no-test))
 
 -- ---- calls without arguments
 

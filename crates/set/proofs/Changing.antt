@@ -4,7 +4,7 @@ use mathlib.Core.Path.{_≡_, refl, sym, ap, _∙_}
 use mathlib.Core.Bool.{Bool, true, false, not, _&&_, cond}
 use mathlib.Core.List.{List, [], _∷_, _++_}
 use native.Mathlib.Omega.{arith}
-use native.Mathlib.Decide.{ℕ-discrete}
+use native.Mathlib.Decide.{decLe, ℕ-discrete}
 use lib.Dec.{ltb, eqb}
 use lib.ListN.{length, drop-of-length-le}
 use borrow.Author.Tests.{lt-ltb, le-ltb, eq-eqb, ne-eqb}
@@ -28,35 +28,16 @@ use Rattle.area_list.proofs.Goodness.{GoodTables, tables-are}
 use Rattle.area_list.proofs.Positions.{sorted}
 use Rattle.area_list.proofs.Stores.{store-same, length-parts, length-spliced}
 use Rattle.effects.specs.Lists.{cut}
-use Rattle.effects.specs.Pages.{onAreas, wipesArea, cutPages, mapPages}
+use Rattle.effects.specs.Pages.{onAreas, wipesArea, cutPages, mapPages, protectPages}
 use Rattle.effects.proofs.Cutting.{cut-empty}
 use Rattle.changes.specs.Gap.{pieceOf, Cuts, Lays}
 use Rattle.changes.specs.declared.Gap.{Gap}
 use Rattle.changes.proofs.Gaps.{gap-cut, gap-insert}
 use Rattle.set.specs.Tests.{rangeTests, rangeAnswer}
-use Rattle.set.specs.Change.{tables, listed, noRoom, unmapList, unmapTests, unmapRule, clearRule, mapped, mapList, mapFirstTests, mapFirstAnswer, mapTests, mapRule}
-use Rattle.set.proofs.Answering.{tables-bad, tables-good, Range, range-is, range-small}
+use Rattle.set.specs.Change.{tables, listed, noRoom, unmapList, unmapTests, unmapRule, clearRule, mapped, mapList, mapFirstTests, mapFirstAnswer, mapTests, mapRule, protectList, protectFirstTests, protectFirstAnswer, protectTests, protectRule}
+use Rattle.set.proofs.Answering.{Refuses, no-test, one-test, answer-then, answer-stops, range-refuses, tables-bad, tables-good, Range, range-is, range-small}
 
--- ---- tests after a list of tests: they count where none of the list applies
-
-data Refuses : List Test → Type 0 where
-  no-test : Refuses []
-  one-test : (k : ℕ) (b : Bool) {ts : List Test} → 0 < k → Refuses ts → Refuses (refuse k b ∷ ts)
-
-answer-then : {ts : List Test} (us : List Test) → Refuses ts → answer ts ≡ 0 → answer (ts ++ us) ≡ answer us
-unfolding answer
-answer-then us no-test e = refl
-answer-then us (one-test k true p r) e = absurd (omega arith)
-answer-then us (one-test k false p r) e = answer-then us r e
-
-answer-stops : {ts : List Test} (us : List Test) → Refuses ts → (answer ts ≡ 0 → ⊥) → answer (ts ++ us) ≡ answer ts
-unfolding answer
-answer-stops us no-test h = absurd (h refl)
-answer-stops us (one-test k true p r) h = refl
-answer-stops us (one-test k false p r) h = answer-stops us r h
-
-range-refuses : (areas pages : List ℕ) (count start size : ℕ) → Refuses (rangeTests areas pages count start size)
-range-refuses areas pages count start size = one-test 1 _ (omega arith) (one-test 2 _ (omega arith) (one-test 3 _ (omega arith) no-test))
+-- ---- tests after those of the range
 
 module _ (areas pages : List ℕ) (count start size : ℕ) (us : List Test) where
   range-then : rangeAnswer areas pages count start size ≡ 0 → answer (rangeTests areas pages count start size ++ us) ≡ answer us
@@ -293,3 +274,81 @@ module _ (areas pages : List ℕ) (count start size flags : ℕ) (backend : Back
             rw (z, a, b, d, ← map-count, map-list)
             (ap (reply 0) (ap (λ (ps : List ℕ). listed (mapList areas count new-area) areas ps count) (sym (write-over (onAreas wipesArea (rows areas count)) backend flags (start / pageSize) ((start + size) / pageSize) pages)))
             ∙ reply-zero _ _ _ (after-first ∙ room-yes areas (mapList areas count new-area) (rw map-count h)))
+
+-- ---- protect
+
+module _ (areas pages : List ℕ) (count start size set clear : ℕ) where
+  abbrev protect-first : ℕ
+  protect-first = protectFirstAnswer areas pages count start size set clear
+
+  flag-tests : List Test
+  flag-tests = refuse 3 (ltb maxFlags set) ∷ refuse 3 (ltb maxFlags clear) ∷ []
+
+  pub protect-range : (rangeAnswer areas pages count start size ≡ 0 → ⊥) → protect-first ≡ rangeAnswer areas pages count start size
+  unfolding protectFirstAnswer flag-tests
+  protect-range h = range-stops areas pages count start size flag-tests h
+
+  module _ (z : rangeAnswer areas pages count start size ≡ 0) where
+    after-range : protect-first ≡ answer flag-tests
+    unfolding protectFirstAnswer flag-tests
+    after-range = range-then areas pages count start size flag-tests z
+
+    pub protect-set : maxFlags < set → protect-first ≡ 3
+    unfolding flag-tests answer
+    protect-set h = after-range ∙ rw (lt-ltb maxFlags set h)
+
+    module _ (s : set ≤ maxFlags) where
+      pub protect-clear : maxFlags < clear → protect-first ≡ 3
+      unfolding flag-tests answer
+      protect-clear h = after-range ∙ rw (le-ltb maxFlags set s, lt-ltb maxFlags clear h)
+
+      pub protect-passes : clear ≤ maxFlags → protect-first ≡ 0
+      unfolding flag-tests answer
+      protect-passes h = after-range ∙ rw (le-ltb maxFlags set s, le-ltb maxFlags clear h)
+
+  -- what passing the tests tells
+  pub record ProtectPassed : Type 0 where
+    pub range : Range areas pages count start size
+    pub set-legal : set ≤ maxFlags
+    pub clear-legal : clear ≤ maxFlags
+
+  pub protect-passed : protect-first ≡ 0 → ProtectPassed
+  protect-passed e =
+      elim (ℕ-discrete (rangeAnswer areas pages count start size) 0) [
+        | no h ↦ absurd (h (sym (protect-range h) ∙ e))
+        | yes z ↦ elim (decLe set maxFlags) [
+          | no s ↦ absurd (let f : protect-first ≡ 3 = protect-set z (omega arith) in omega arith)
+          | yes s ↦ elim (decLe clear maxFlags) [
+            | no h ↦ absurd (let f : protect-first ≡ 3 = protect-clear z s (omega arith) in omega arith)
+            | yes h ↦ record { range = range-is areas pages count start size z; set-legal = s; clear-legal = h }
+          ]
+        ]
+      ]
+
+  flags-refuse : Refuses (protectFirstTests areas pages count start size set clear)
+  flags-refuse = one-test 1 _ (omega arith) (one-test 2 _ (omega arith) (one-test 3 _ (omega arith) (one-test 3 _ (omega arith) (one-test 3 _ (omega arith) no-test))))
+
+  abbrev protect-room : List Test
+  protect-room = noRoom areas (protectList areas count start size set clear) ∷ []
+
+  module _ (n : ℕ) (e : n ≡ protect-first) where
+    pub protect-refused : (n ≡ 0 → ⊥) → reply n (tables areas pages count) ≡ protectRule areas pages count start size set clear
+    unfolding protectRule protectFirstAnswer
+    protect-refused h = rw (answer-stops protect-room flags-refuse (rw e at h), ← e) (reply-refused _ _ _ h)
+
+    module _ (z : n ≡ 0) where
+      after-flags : answer (protectTests areas pages count start size set clear) ≡ answer protect-room
+      unfolding protectFirstAnswer
+      after-flags = answer-then protect-room flags-refuse (sym e ∙ z)
+
+      pub protect-no-room : capacityOf (length areas) < length (protectList areas count start size set clear) → reply 6 (tables areas pages count) ≡ protectRule areas pages count start size set clear
+      unfolding protectRule
+      protect-no-room h = reply-suc _ _ _ 5 (after-flags ∙ room-no areas (protectList areas count start size set clear) h)
+
+      pub protect-done : (areas′ pages′ : List ℕ) (count′ : ℕ) → length (protectList areas count start size set clear) ≤ capacityOf (length areas)
+          → areas′ ≡ store (protectList areas count start size set clear) areas count
+          → pages′ ≡ protectPages start (start + size) set clear (rows areas count) pages → count′ ≡ length (protectList areas count start size set clear)
+          → reply n (tables areas′ pages′ count′) ≡ protectRule areas pages count start size set clear
+      unfolding protectRule
+      protect-done areas′ pages′ count′ h a b d =
+          rw (z, a, b, d) (reply-zero _ _ _ (after-flags ∙ room-yes areas (protectList areas count start size set clear) h))

@@ -15,8 +15,8 @@ use Rattle.area_list.specs.Layout.{capacityOf, rows}
 use Rattle.area_list.specs.Good.{spaceOf}
 use Rattle.area_list.specs.Meet.{sharesAny}
 use Rattle.area_list.specs.Store.{store}
-use Rattle.effects.specs.Lists.{cut, insert}
-use Rattle.effects.specs.Pages.{cutPages, mapPages}
+use Rattle.effects.specs.Lists.{cut, insert, protect}
+use Rattle.effects.specs.Pages.{cutPages, mapPages, protectPages}
 use Rattle.set.specs.Tests.{tablesAnswer, rangeTests}
 use Rattle.set.specs.declared.Changed.{Changed}
 
@@ -92,3 +92,25 @@ mapRule areas pages count start size flags backend replace =
     replyBy (tables areas pages count) (answer (mapTests areas pages count start size flags backend replace))
     (listed (mapList areas count (mapped start size flags backend)) areas
     (mapPages (mapped start size flags backend) (cutPages start (start + size) (rows areas count) pages)) count)
+
+-- ---- protect: flags without the clear bits, then with the set bits, on the parts of areas in the range
+
+abbrev pub protectList : List ℕ → ℕ → ℕ → ℕ → ℕ → ℕ → List Area
+protectList areas count start size set clear = protect start (start + size) set clear (rows areas count)
+
+-- after the range's tests: 3 "set or clear above 15"; then 6
+abbrev pub protectFirstTests : List ℕ → List ℕ → ℕ → ℕ → ℕ → ℕ → ℕ → List Test
+protectFirstTests areas pages count start size set clear =
+    rangeTests areas pages count start size ++ (refuse 3 (ltb maxFlags set) ∷ refuse 3 (ltb maxFlags clear) ∷ [])
+
+unfoldable pub protectFirstAnswer : List ℕ → List ℕ → ℕ → ℕ → ℕ → ℕ → ℕ → ℕ
+protectFirstAnswer areas pages count start size set clear = answer (protectFirstTests areas pages count start size set clear)
+
+abbrev pub protectTests : List ℕ → List ℕ → ℕ → ℕ → ℕ → ℕ → ℕ → List Test
+protectTests areas pages count start size set clear =
+    protectFirstTests areas pages count start size set clear ++ (noRoom areas (protectList areas count start size set clear) ∷ [])
+
+unfoldable pub protectRule : List ℕ → List ℕ → ℕ → ℕ → ℕ → ℕ → ℕ → Reply Tables
+protectRule areas pages count start size set clear =
+    replyBy (tables areas pages count) (answer (protectTests areas pages count start size set clear))
+    (listed (protectList areas count start size set clear) areas (protectPages start (start + size) set clear (rows areas count) pages) count)
