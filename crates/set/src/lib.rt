@@ -351,8 +351,8 @@ pub fn map(
     };
     let gap = find_gap(areas, count, start, end);
     let parts = around(gap, area);
-    let left = gap.low + parts.number + (count - gap.high);
-    if capacity(areas.len()) < left {
+    let grown = gap.low + parts.number + (count - gap.high);
+    if capacity(areas.len()) < grown {
         return Changed {
             answer: Answer::NoRoom,
             count,

@@ -46,14 +46,14 @@ around-requires c κs = search needs
 fits : (c : tie.After-around) → GapFits (c .before .before .before .before .before .before .before .before .before .before .args .count) (c .before .find-gap .result .low) (c .before .find-gap .result .high) (c .around .result .number)
 fits c = gap-fits (asked (c .before .before .before) .range) (c .before .find-gap .ensures) (c .around .ensures)
 
-add-left : tie.Need-add-left
-add-left c = omega (arith, fits (c .before .before))
+add-grown : tie.Need-add-grown
+add-grown c = omega (arith, fits (c .before .before))
 
-sub-left : tie.Need-sub-left
-sub-left c = omega (arith, fits (c .before .before .before))
+sub-grown : tie.Need-sub-grown
+sub-grown c = omega (arith, fits (c .before .before .before))
 
-add-left-2 : tie.Need-add-left-2
-add-left-2 c = omega (arith, fits (c .before .before .before))
+add-grown-2 : tie.Need-add-grown-2
+add-grown-2 c = omega (arith, fits (c .before .before .before))
 
 capacity-requires : tie.Need-capacity-requires
 capacity-requires c κs = search needs
@@ -104,9 +104,9 @@ map-spec =
     add-end
     find-gap-requires
     around-requires
-    add-left
-    sub-left
-    add-left-2
+    add-grown
+    sub-grown
+    add-grown-2
     capacity-requires
     same-length-3
     same-length-4
