@@ -358,13 +358,9 @@ pub fn map(
             count,
         };
     }
-    write(
-        pages,
-        (start / PAGE) as usize,
-        (end / PAGE) as usize,
-        flags,
-        backend,
-    );
+    let first = (start / PAGE) as usize;
+    let past = (end / PAGE) as usize;
+    write(pages, first, past, flags, backend);
     let count = splice(areas, count, gap.low, gap.high, parts);
     Changed { answer, count }
 }
