@@ -1,5 +1,5 @@
 -- Demand 1 for all calls at once: whatever the arguments and the tables hold, the answer is one of 01's numbers, and where it is
--- not 0 both tables and the count are as they were. Assumes nothing.
+-- not 0 both tables and the count are as they were. And that no second outcome meets a change's promise. Assumes nothing.
 use Prim.Native.Nat.{ℕ, zero, suc, _+_, _/_, _≤_}
 use mathlib.Core.Path.{_≡_, refl, sym, ap, _∙_}
 use mathlib.Core.Bool.{Bool, true, false, cond}
@@ -7,11 +7,12 @@ use mathlib.Core.List.{List, [], _∷_, _++_}
 use native.Mathlib.Omega.{arith}
 use Rattle.area.specs.Answer.{answer, Test, Reply, reply, replyBy}
 use Rattle.area.specs.declared.Area.{Area}
-use Rattle.area.proofs.Answers.{reply-answer}
+use Rattle.area.proofs.Answers.{reply-answer, number-inj}
 use Rattle.search.specs.Free.{Ask, FreeOutcome, freeRule, isFree, lowestFree, freeGives}
 use Rattle.set.specs.Tests.{tablesAnswer, rangeAnswer}
 use Rattle.set.specs.Question.{lenRule, emptyRule, overlapsRule, findAnswer, findRule, searchTests, searchAnswer, placedBy, freeAreaRule}
-use Rattle.set.specs.Change.{Tables, unmapRule, clearRule, mapFirstTests, mapRule, protectFirstTests, protectRule}
+use Rattle.set.specs.Change.{Tables, changedOutcome, unmapRule, clearRule, mapFirstTests, mapRule, protectFirstTests, protectRule}
+use Rattle.set.specs.declared.Changed.{Changed}
 use Rattle.set.specs.Calls.{Call, lenCall, emptyCall, overlapsCall, findCall, entriesCall, searchCall, mapCall, unmapCall, clearCall, protectCall, called}
 use Rattle.set.proofs.Answering.{Refuses, no-test, one-test, answer-known, range-refuses}
 
@@ -89,3 +90,19 @@ all-or-nothing (unmapCall start size) t = does t _ (one-test 1 _ (omega arith) (
 all-or-nothing clearCall t = does t _ (one-test 1 _ (omega arith) no-test)
 all-or-nothing (protectCall start size set clear) t =
     does t _ (one-test 1 _ (omega arith) (one-test 2 _ (omega arith) (one-test 3 _ (omega arith) (one-test 3 _ (omega arith) (one-test 3 _ (omega arith) (one-test 6 _ (omega arith) no-test))))))
+
+-- ---- no second outcome: what a change's promise says fixes the result and every word of both tables
+
+pub record Same (r s : Changed) (areas areas′ pages pages′ : List ℕ) : Type 0 where
+  pub results : r ≡ s
+  pub area-words : areas ≡ areas′
+  pub page-entries : pages ≡ pages′
+
+pub changed-unique : (r s : Changed) (areas areas′ pages pages′ : List ℕ) → changedOutcome r areas pages ≡ changedOutcome s areas′ pages′
+    → Same r s areas areas′ pages pages′
+changed-unique r s areas areas′ pages pages′ e =
+    record {
+      results = λ i. record { answer = number-inj (r .answer) (s .answer) (ap (λ (o : Reply Tables). o .answer) e) i; count = e i .value .count };
+      area-words = λ i. e i .value .areas;
+      page-entries = λ i. e i .value .pages
+    }
