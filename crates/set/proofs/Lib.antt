@@ -1,4 +1,5 @@
 pub mod Answering
+pub mod Cases
 pub mod Changing
 pub mod Demands
 pub mod Questions
