@@ -70,3 +70,11 @@ named NotFound = refl
 
 pub number-inj : (a b : Answer) → number a ≡ number b → a ≡ b
 number-inj a b e = sym (named a) ∙ ap nameOf e ∙ named b
+
+-- no second outcome: a promise that equates the answer's number and a value with a rule fixes the answer's name and the value
+pub record OneOutcome {A : Type 0} (a b : Answer) (v w : A) : Type 0 where
+  pub answers : a ≡ b
+  pub values : v ≡ w
+
+pub one-outcome : {A : Type 0} (a b : Answer) (v w : A) → reply (number a) v ≡ reply (number b) w → OneOutcome a b v w
+one-outcome {A} a b v w e = record { answers = number-inj a b (ap (λ (r : Reply A). r .answer) e); values = λ i. e i .value }

@@ -13,7 +13,7 @@ use Rattle.area.specs.Cut.{cutTests, cutAnswer, Pair, pair, splitOutcome
 use Rattle.area.specs.declared.Area.{Area}
 use Rattle.area.specs.declared.Split.{Split}
 use Rattle.area.specs.declared.Shrunk.{Shrunk}
-use Rattle.area.proofs.Answers.{reply-accepted, reply-refused, reply-answer, number-inj}
+use Rattle.area.proofs.Answers.{reply-accepted, reply-refused, reply-answer, one-outcome}
 use Rattle.area.proofs.Areas.{Good, Halves, good-is, part-good, halves}
 
 -- the tests in their order: each section adds that one more did not apply
@@ -125,9 +125,7 @@ split-parts a at z =
 -- ---- no second outcome: the answer's number and the areas fix the result
 
 pub split-unique : (r s : Split) → splitOutcome r ≡ splitOutcome s → r ≡ s
-split-unique r s e i =
-    record { answer = number-inj (r .answer) (s .answer) (ap (λ (o : Reply Pair). o .answer) e) i; left = e i .value .left; right = e i .value .right }
+split-unique r s e i = let u = one-outcome (r .answer) (s .answer) (pair (r .left) (r .right)) (pair (s .left) (s .right)) e in record { answer = u .answers i; left = u .values i .left; right = u .values i .right }
 
 pub shrunk-unique : (r s : Shrunk) → shrunkOutcome r ≡ shrunkOutcome s → r ≡ s
-shrunk-unique r s e i =
-    record { answer = number-inj (r .answer) (s .answer) (ap (λ (o : Reply Area). o .answer) e) i; area = e i .value }
+shrunk-unique r s e i = let u = one-outcome (r .answer) (s .answer) (r .area) (s .area) e in record { answer = u .answers i; area = u .values i }

@@ -7,11 +7,11 @@ use mathlib.Core.List.{List, [], _∷_, _++_}
 use native.Mathlib.Omega.{arith}
 use Rattle.area.specs.Answer.{answer, Test, Reply, reply, replyBy}
 use Rattle.area.specs.declared.Area.{Area}
-use Rattle.area.proofs.Answers.{reply-answer, number-inj}
+use Rattle.area.proofs.Answers.{reply-answer, one-outcome}
 use Rattle.search.specs.Free.{Ask, FreeOutcome, freeRule, isFree, lowestFree, freeGives}
 use Rattle.set.specs.Tests.{tablesAnswer, rangeAnswer}
 use Rattle.set.specs.Question.{lenRule, emptyRule, overlapsRule, findAnswer, findRule, searchTests, searchAnswer, placedBy, freeAreaRule}
-use Rattle.set.specs.Change.{Tables, changedOutcome, unmapRule, clearRule, mapFirstTests, mapRule, protectFirstTests, protectRule}
+use Rattle.set.specs.Change.{Tables, tables, changedOutcome, unmapRule, clearRule, mapFirstTests, mapRule, protectFirstTests, protectRule}
 use Rattle.set.specs.declared.Changed.{Changed}
 use Rattle.set.specs.Calls.{Call, lenCall, emptyCall, overlapsCall, findCall, entriesCall, searchCall, mapCall, unmapCall, clearCall, protectCall, called}
 use Rattle.set.proofs.Answering.{Refuses, no-test, one-test, answer-known, range-refuses}
@@ -101,8 +101,9 @@ pub record Same (r s : Changed) (areas areas′ pages pages′ : List ℕ) : Typ
 pub changed-unique : (r s : Changed) (areas areas′ pages pages′ : List ℕ) → changedOutcome r areas pages ≡ changedOutcome s areas′ pages′
     → Same r s areas areas′ pages pages′
 changed-unique r s areas areas′ pages pages′ e =
+    let u = one-outcome (r .answer) (s .answer) (tables areas pages (r .count)) (tables areas′ pages′ (s .count)) e in
     record {
-      results = λ i. record { answer = number-inj (r .answer) (s .answer) (ap (λ (o : Reply Tables). o .answer) e) i; count = e i .value .count };
-      area-words = λ i. e i .value .areas;
-      page-entries = λ i. e i .value .pages
+      results = λ i. record { answer = u .answers i; count = u .values i .count };
+      area-words = λ i. u .values i .areas;
+      page-entries = λ i. u .values i .pages;
     }

@@ -14,7 +14,7 @@ use Rattle.page_table.specs.Limits.{pageSize}
 use Rattle.area.specs.Answer.{answer, Reply, reply, replyBy}
 use Rattle.area.specs.Area.{firstPage, endPage, nothing}
 use Rattle.area.specs.declared.Area.{Area}
-use Rattle.area.proofs.Answers.{reply-zero, reply-suc, reply-refused, number-inj}
+use Rattle.area.proofs.Answers.{reply-zero, reply-suc, reply-refused, one-outcome}
 use Rattle.area_list.specs.Layout.{rows}
 use Rattle.area_list.specs.Good.{spaceOf, goodTables}
 use Rattle.area_list.specs.Position.{firstWhere, contains}
@@ -233,17 +233,13 @@ module _ (areas pages : List ℕ) (count hint size low high align n : ℕ) (e : 
 -- ---- no second outcome: the answer's number and its value fix the result
 
 pub counted-unique : (r s : Counted) → lenOutcome r ≡ lenOutcome s → r ≡ s
-counted-unique r s e i =
-    record { answer = number-inj (r .answer) (s .answer) (ap (λ (o : Reply ℕ). o .answer) e) i; len = e i .value }
+counted-unique r s e i = let u = one-outcome (r .answer) (s .answer) (r .len) (s .len) e in record { answer = u .answers i; len = u .values i }
 
 pub told-unique : (r s : Told) → toldOutcome r ≡ toldOutcome s → r ≡ s
-told-unique r s e i =
-    record { answer = number-inj (r .answer) (s .answer) (ap (λ (o : Reply Bool). o .answer) e) i; yes = e i .value }
+told-unique r s e i = let u = one-outcome (r .answer) (s .answer) (r .yes) (s .yes) e in record { answer = u .answers i; yes = u .values i }
 
 pub found-unique : (r s : Found) → foundOutcome r ≡ foundOutcome s → r ≡ s
-found-unique r s e i =
-    record { answer = number-inj (r .answer) (s .answer) (ap (λ (o : Reply Area). o .answer) e) i; area = e i .value }
+found-unique r s e i = let u = one-outcome (r .answer) (s .answer) (r .area) (s .area) e in record { answer = u .answers i; area = u .values i }
 
 pub placed-unique : (r s : Placed) → placedOutcome r ≡ placedOutcome s → r ≡ s
-placed-unique r s e i =
-    record { answer = number-inj (r .answer) (s .answer) (ap (λ (o : Reply ℕ). o .answer) e) i; at = e i .value }
+placed-unique r s e i = let u = one-outcome (r .answer) (s .answer) (r .at) (s .at) e in record { answer = u .answers i; at = u .values i }
