@@ -1,19 +1,21 @@
 // The work of the calls that change the tables, for good tables and arguments that have been tested: which slots a range
 // cuts, and what becomes of the entries of the pages in it.
 use area::Area;
+use area_list::any_overlap;
 use area_list::area_at;
 use area_list::first_ending_past;
 use area_list::slots::Parts;
 use page_table::PAGE;
 use page_table::wipe;
 ghost use mathlib.Core.Path.{_≡_};
-ghost use mathlib.Core.Bool.{true, false};
+ghost use mathlib.Core.Bool.{true, false, not, _&&_};
 ghost use Prim.Native.Nat.{min, max, _<_};
 ghost use mathlib.Core.List.{[], _∷_, _++_};
 ghost use lib.ListN.{length, drop};
 ghost use Rattle.area_list.specs.Layout.{rows};
 ghost use Rattle.area_list.specs.Good.{goodTables};
 ghost use Rattle.area_list.specs.Position.{SortedRows};
+ghost use Rattle.area_list.specs.Meet.{sharesAny};
 ghost use Rattle.effects.specs.Pages.{cutPages};
 ghost use Rattle.effects.proofs.Cutting.{leftOf};
 ghost use Rattle.changes.specs.Gap.{pieceOf, RightOf, Cuts, Lays, partsWith};
@@ -127,6 +129,17 @@ pub fn find_gap(areas: &[u64], count: usize, low: u64, high: u64) -> Gap
         left,
         right,
     }
+}
+
+// Whether a map that does not replace meets an area.
+pub fn blocked(areas: &[u64], count: usize, low: u64, high: u64, replace: bool) -> bool
+    requires { ⌜ SortedRows (now areas) count ⌝ }
+    ensures { λ r. ⌜ r ≡ (not replace && sharesAny low high (rows (now (areas .entry)) count)) ⌝ }
+{
+    if replace {
+        return false;
+    }
+    any_overlap(areas, count, low, high)
 }
 
 // What stays on both sides of a gap.

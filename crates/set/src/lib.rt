@@ -9,6 +9,7 @@ use area_list::first_holding;
 use area_list::good;
 use area_list::slots::splice;
 use changes::around;
+use changes::blocked;
 use changes::find_gap;
 use changes::no_parts;
 use changes::sides;
@@ -21,11 +22,7 @@ use search::Free;
 use search::lowest_free;
 use search::power_of_two;
 ghost use mathlib.Core.Path.{_≡_};
-ghost use mathlib.Core.Bool.{not, _&&_};
 ghost use lib.ListN.{length};
-ghost use Rattle.area_list.specs.Layout.{rows};
-ghost use Rattle.area_list.specs.Position.{SortedRows};
-ghost use Rattle.area_list.specs.Meet.{sharesAny};
 ghost use Rattle.area.specs.Answer.{number};
 ghost use Rattle.set.specs.Change.{changedOutcome, unmapRule, clearRule, mapFirstAnswer, mapRule};
 ghost use Rattle.set.specs.Tests.{rangeAnswer};
@@ -279,17 +276,6 @@ pub fn clear(areas: &mut [u64], pages: &mut [u32], count: usize) -> Changed
         answer: Answer::Accepted,
         count,
     }
-}
-
-// Whether a map that does not replace meets an area.
-fn blocked(areas: &[u64], count: usize, low: u64, high: u64, replace: bool) -> bool
-    requires { ⌜ SortedRows (now areas) count ⌝ }
-    ensures { λ r. ⌜ r ≡ (not replace && sharesAny low high (rows (now (areas .entry)) count)) ⌝ }
-{
-    if replace {
-        return false;
-    }
-    any_overlap(areas, count, low, high)
 }
 
 // What the tests of map before the one for room answer.

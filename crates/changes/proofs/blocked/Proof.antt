@@ -1,8 +1,8 @@
 -- `blocked` meets its contract. Assumes nothing.
 use borrow.Author.Needs.{needs}
 use mathlib.Core.Path.{_∙_, sym}
-use Rattle.set.proofs.blocked.Statement.{statement}
-use Rattle.set.proofs.blocked.Tie as tie
+use Rattle.changes.proofs.blocked.Statement.{statement}
+use Rattle.changes.proofs.blocked.Tie as tie
 
 returns : tie.Need-returns
 returns c = search needs
