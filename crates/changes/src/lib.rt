@@ -34,13 +34,14 @@ pub struct Gap {
     pub right: Piece,
 }
 
-fn earlier(a: u64, b: u64) -> u64
+// The earlier and the later of two addresses.
+pub fn earlier(a: u64, b: u64) -> u64
     ensures { λ r. ⌜ r ≡ min a b ⌝ }
 {
     if a < b { a } else { b }
 }
 
-fn later(a: u64, b: u64) -> u64
+pub fn later(a: u64, b: u64) -> u64
     ensures { λ r. ⌜ r ≡ max a b ⌝ }
 {
     if a < b { b } else { a }

@@ -1,3 +1,4 @@
 pub mod Cutting
 pub mod Paging
+pub mod Protecting
 pub mod Sweeping

@@ -28,8 +28,9 @@ use Rattle.area_list.proofs.Goodness.{GoodTables, tables-are}
 use Rattle.area_list.proofs.Positions.{sorted}
 use Rattle.area_list.proofs.Stores.{store-same, length-parts, length-spliced}
 use Rattle.effects.specs.Lists.{cut}
-use Rattle.effects.specs.Pages.{onAreas, wipesArea, cutPages, mapPages, protectPages}
+use Rattle.effects.specs.Pages.{onAreas, wipesArea, cutPages, mapPages, protectsArea, protectPages}
 use Rattle.effects.proofs.Cutting.{cut-empty}
+use Rattle.effects.proofs.Protecting.{protect-empty}
 use Rattle.changes.specs.Gap.{pieceOf, Cuts, Lays}
 use Rattle.changes.specs.declared.Gap.{Gap}
 use Rattle.changes.proofs.Gaps.{gap-cut, gap-insert}
@@ -277,6 +278,10 @@ module _ (areas pages : List ℕ) (count start size flags : ℕ) (backend : Back
 
 -- ---- protect
 
+nothing-flagged : (low high set clear : ℕ) (list : List Area) (pages : List ℕ) → high ≤ low → protectPages low high set clear list pages ≡ pages
+unfolding protectPages
+nothing-flagged low high set clear list pages h = within-none (onAreas (protectsArea set clear) list) (low / pageSize) (high / pageSize) pages (omega arith)
+
 module _ (areas pages : List ℕ) (count start size set clear : ℕ) where
   abbrev protect-first : ℕ
   protect-first = protectFirstAnswer areas pages count start size set clear
@@ -352,3 +357,15 @@ module _ (areas pages : List ℕ) (count start size set clear : ℕ) where
       unfolding protectRule
       protect-done areas′ pages′ count′ h a b d =
           rw (z, a, b, d) (reply-zero _ _ _ (after-flags ∙ room-yes areas (protectList areas count start size set clear) h))
+
+      pub protect-nothing : size ≡ 0 → reply n (tables areas pages count) ≡ protectRule areas pages count start size set clear
+      unfolding protectRule
+      protect-nothing s =
+          rw z (ap (reply 0) (sym value) ∙ reply-zero _ _ _ (after-flags ∙ room-yes areas (protectList areas count start size set clear) (rw (list, length-rows areas count) (good-now .count-few))))
+        where
+          good-now : GoodTables areas count (length pages)
+          good-now = tables-are areas count (length pages) (protect-passed (sym e ∙ z) .range .tables)
+          list : protectList areas count start size set clear ≡ rows areas count
+          list = protect-empty start (start + size) set clear (rows areas count) (omega arith)
+          value : listed (protectList areas count start size set clear) areas (protectPages start (start + size) set clear (rows areas count) pages) count ≡ tables areas pages count
+          value = rw (list, store-same (sorted good-now), length-rows areas count, nothing-flagged start (start + size) set clear (rows areas count) pages (omega arith))

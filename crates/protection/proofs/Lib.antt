@@ -1,0 +1,4 @@
+pub mod Flagging
+pub mod Flags
+pub mod Splits
+pub mod Words

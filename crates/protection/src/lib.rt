@@ -1,0 +1,227 @@
+// The work of protect, for good tables and arguments that have been tested: the flags that it gives, what becomes of the
+// entries of the pages in its range, and how it splits and flags the areas of the list.
+use area::Area;
+use area_list::area_at;
+use area_list::first_ending_past;
+use area_list::slots::Parts;
+use area_list::slots::splice;
+use changes::earlier;
+use changes::later;
+use page_table::PAGE;
+use page_table::entry::FLAGS;
+use page_table::reflag;
+ghost use mathlib.Core.Path.{_≡_};
+ghost use mathlib.Core.Bool.{true};
+ghost use mathlib.Core.List.{map};
+ghost use Prim.Native.Nat.{min, max, _+_, _/_, _≤_, _<_};
+ghost use lib.ListN.{length};
+ghost use Rattle.lists.specs.Each.{within};
+ghost use Rattle.page_table.specs.Limits.{pageSize, maxPages, maxFlags};
+ghost use Rattle.area_list.specs.Layout.{capacityOf, rows};
+ghost use Rattle.area_list.specs.Good.{goodTables};
+ghost use Rattle.area_list.specs.Position.{firstWhere};
+ghost use Rattle.area_list.specs.Store.{store};
+ghost use Rattle.effects.specs.Lists.{newFlags, protect};
+ghost use Rattle.effects.specs.Pages.{protectsArea, protectPages};
+ghost use Rattle.effects.proofs.Protecting.{cutsAt, splitAt, flagged};
+ghost use Rattle.protection.specs.Range.{ProtectRange};
+
+// The old flags without the clear bits, then with the set bits: a bit in both is set.
+pub fn new_flags(old: u32, set: u32, clear: u32) -> u32
+    requires { ⌜ clear ≤ maxFlags ⌝ }
+    ensures { λ r. ⌜ r ≡ newFlags set clear old ⌝ }
+{
+    (old & (FLAGS - clear)) | set
+}
+
+// Writes the entries of an area's pages in the range anew, with the new flags, where these are others than the old.
+fn reflag_area(pages: &mut [u32], area: Area, low: u64, high: u64, set: u32, clear: u32)
+    requires { ⌜ clear ≤ maxFlags ⌝ }
+    ensures { λ _. ⌜ now (pages .exit)
+        ≡ within (protectsArea set clear area) (max low (area .start) / pageSize) (min high (area .end) / pageSize) (now (pages .entry)) ⌝ }
+{
+    let flags = new_flags(area.flags, set, clear);
+    if flags == area.flags {
+        return;
+    }
+    let first = (later(low, area.start) / PAGE) as usize;
+    let end = (earlier(high, area.end) / PAGE) as usize;
+    let backend = area.backend;
+    reflag(pages, first, end, flags, backend);
+}
+
+// Gives the pages that lie in areas and in the range the new flags.
+pub fn reflag_areas(
+    areas: &[u64],
+    pages: &mut [u32],
+    count: usize,
+    low: u64,
+    high: u64,
+    set: u32,
+    clear: u32,
+)
+    requires { ⌜ goodTables (now areas) count (length (now pages)) ≡ true ⌝ }
+    requires { ⌜ clear ≤ maxFlags ⌝ }
+    ensures { λ _. ⌜ now (pages .exit) ≡ protectPages low high set clear (rows (now (areas .entry)) count) (now (pages .entry)) ⌝ }
+{
+    let mut slot = first_ending_past(areas, count, low);
+    while slot < count {
+        let area = area_at(areas, count, slot);
+        if high <= area.start {
+            return;
+        }
+        reflag_area(pages, area, low, high, set, clear);
+        slot += 1;
+    }
+}
+
+// The slot of the area that protect splits at an end of its range, or count: the end lies strictly inside and the flags
+// change.
+//
+//        address
+// [ area    |    ]
+fn cut_slot(areas: &[u64], count: usize, address: u64, set: u32, clear: u32) -> usize
+    requires { ⌜ goodTables (now areas) count maxPages ≡ true ⌝ }
+    requires { ⌜ clear ≤ maxFlags ⌝ }
+    ensures { λ r. ⌜ r ≡ firstWhere (cutsAt set clear address) (rows (now (areas .entry)) count) ⌝ }
+{
+    let slot = first_ending_past(areas, count, address);
+    if count <= slot {
+        return count;
+    }
+    let area = area_at(areas, count, slot);
+    if address <= area.start {
+        return count;
+    }
+    if new_flags(area.flags, set, clear) == area.flags {
+        return count;
+    }
+    slot
+}
+
+// How many areas more the list gets from a split at one end of the range.
+fn extra_at(areas: &[u64], count: usize, address: u64, set: u32, clear: u32) -> usize
+    requires { ⌜ goodTables (now areas) count maxPages ≡ true ⌝ }
+    requires { ⌜ clear ≤ maxFlags ⌝ }
+    ensures { λ r. ⌜ (length (splitAt set clear address (rows (now (areas .entry)) count)) ≡ count + r) × (r ≤ 1) ⌝ }
+{
+    if cut_slot(areas, count, address, set, clear) < count {
+        1
+    } else {
+        0
+    }
+}
+
+// How many areas more the list gets: one for each end of the range that splits an area.
+pub fn extra_areas(areas: &[u64], count: usize, low: u64, high: u64, set: u32, clear: u32) -> usize
+    requires { ⌜ goodTables (now areas) count maxPages ≡ true ⌝ }
+    requires { ⌜ low < high ⌝ }
+    requires { ⌜ clear ≤ maxFlags ⌝ }
+    ensures { λ r. ⌜ (length (protect low high set clear (rows (now (areas .entry)) count)) ≡ count + r) × (r ≤ 2) ⌝ }
+{
+    let left = extra_at(areas, count, low, set, clear);
+    let right = extra_at(areas, count, high, set, clear);
+    left + right
+}
+
+// Splits the area of the list that protect splits at an end of its range, if there is one; the new number of areas.
+//
+//        address
+// [ left    | right ]
+fn split_at(areas: &mut [u64], count: usize, address: u64, set: u32, clear: u32) -> usize
+    requires { ⌜ goodTables (now areas) count maxPages ≡ true ⌝ }
+    requires { ⌜ clear ≤ maxFlags ⌝ }
+    requires { ⌜ length (splitAt set clear address (rows (now areas) count)) ≤ capacityOf (length (now areas)) ⌝ }
+    ensures { λ r. ⌜ (r ≡ length (splitAt set clear address (rows (now (areas .entry)) count)))
+        × (now (areas .exit) ≡ store (splitAt set clear address (rows (now (areas .entry)) count)) (now (areas .entry)) count) ⌝ }
+{
+    let slot = cut_slot(areas, count, address, set, clear);
+    if count <= slot {
+        return count;
+    }
+    let area = area_at(areas, count, slot);
+    let left = area.part(area.start, address);
+    let right = area.part(address, area.end);
+    let none = Area::nothing();
+    let parts = Parts {
+        number: 2,
+        first: left,
+        second: right,
+        third: none,
+    };
+    splice(areas, count, slot, slot + 1, parts)
+}
+
+// An area of the split list as protect leaves it: one that lies in the range gets the new flags. Any other stays: it has no
+// address in the range, or it was not split at the range's end because its flags do not change.
+fn flagged_area(area: Area, low: u64, high: u64, set: u32, clear: u32) -> Area
+    requires { ⌜ clear ≤ maxFlags ⌝ }
+    ensures { λ r. ⌜ r ≡ flagged low high set clear area ⌝ }
+{
+    if area.start < low {
+        return area;
+    }
+    if high < area.end {
+        return area;
+    }
+    let flags = new_flags(area.flags, set, clear);
+    let backend = area.backend;
+    Area {
+        start: area.start,
+        end: area.end,
+        flags,
+        backend,
+    }
+}
+
+// Gives the areas of the split list that lie in the range the new flags: each takes its own slot again, so no tail moves.
+fn flag_inside(areas: &mut [u64], count: usize, low: u64, high: u64, set: u32, clear: u32)
+    requires { ⌜ goodTables (now areas) count maxPages ≡ true ⌝ }
+    requires { ⌜ set ≤ maxFlags ⌝ }
+    requires { ⌜ clear ≤ maxFlags ⌝ }
+    ensures { λ _. ⌜ now (areas .exit)
+        ≡ store (map (flagged low high set clear) (rows (now (areas .entry)) count)) (now (areas .entry)) count ⌝ }
+{
+    let mut slot = first_ending_past(areas, count, low);
+    while slot < count {
+        let area = area_at(areas, count, slot);
+        if high <= area.start {
+            return;
+        }
+        let new = flagged_area(area, low, high, set, clear);
+        let none = Area::nothing();
+        let parts = Parts {
+            number: 1,
+            first: new,
+            second: none,
+            third: none,
+        };
+        splice(areas, count, slot, slot + 1, parts);
+        slot += 1;
+    }
+}
+
+// Splits the areas that protect splits at the ends of the range, and gives those that then lie in it the new flags; the
+// new number of areas.
+//
+//         [     range     ]
+// [ left  | new ]   [ new | right ]
+pub fn protect_list(
+    areas: &mut [u64],
+    count: usize,
+    low: u64,
+    high: u64,
+    set: u32,
+    clear: u32,
+) -> usize
+    requires { ⌜ goodTables (now areas) count maxPages ≡ true ⌝ }
+    requires { ⌜ ProtectRange low high set clear ⌝ }
+    requires { ⌜ length (protect low high set clear (rows (now areas) count)) ≤ capacityOf (length (now areas)) ⌝ }
+    ensures { λ r. ⌜ (r ≡ length (protect low high set clear (rows (now (areas .entry)) count)))
+        × (now (areas .exit) ≡ store (protect low high set clear (rows (now (areas .entry)) count)) (now (areas .entry)) count) ⌝ }
+{
+    let more = split_at(areas, count, high, set, clear);
+    let all = split_at(areas, more, low, set, clear);
+    flag_inside(areas, all, low, high, set, clear);
+    all
+}
