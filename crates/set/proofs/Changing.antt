@@ -365,7 +365,9 @@ module _ (areas pages : List ℕ) (count start size set clear : ℕ) where
         where
           good-now : GoodTables areas count (length pages)
           good-now = tables-are areas count (length pages) (protect-passed (sym e ∙ z) .range .tables)
+
           list : protectList areas count start size set clear ≡ rows areas count
           list = protect-empty start (start + size) set clear (rows areas count) (omega arith)
+
           value : listed (protectList areas count start size set clear) areas (protectPages start (start + size) set clear (rows areas count) pages) count ≡ tables areas pages count
           value = rw (list, store-same (sorted good-now), length-rows areas count, nothing-flagged start (start + size) set clear (rows areas count) pages (omega arith))

@@ -62,18 +62,21 @@ same-length-6 c = search needs
 
 returns-3 : tie.Need-returns-3
 returns-3 c =
-    protect-no-room _ _ _ _ _ _ _ _ (c .before .before .before .before .before .before .before .protect-answer .ensures) (passed (c .before .before .before .before .before ))
+    protect-no-room _ _ _ _ _ _ _ _ (c .before .before .before .before .before .before .before .protect-answer .ensures) (passed (c .before .before .before .before .before))
     (omega (arith, c .before .capacity .ensures, c .before .before .extra-areas .ensures .0))
 
 reflag-areas-requires : tie.Need-reflag-areas-requires
-reflag-areas-requires c κs = (asked (c .before .before .before .before .before .before .before ) .range .tables, asked (c .before .before .before .before .before .before .before ) .clear-legal)
+reflag-areas-requires c κs = (asked (c .before .before .before .before .before .before .before) .range .tables, asked (c .before .before .before .before .before .before .before) .clear-legal)
 
 protect-list-requires : tie.Need-protect-list-requires
 protect-list-requires c κs =
-    let p = asked (c .before .before .before .before .before .before .before .before .before .before .before ) in
-    (good-with-most _ _ _ (p .range .tables),
-    (record { nonempty = omega arith; low-aligned = p .range .start-aligned; high-aligned = omega (arith, p .range); set-legal = p .set-legal; clear-legal = p .clear-legal },
-    omega (arith, c .before .before .before .before .before .before .before .capacity .ensures, c .before .before .before .before .before .before .before .before .extra-areas .ensures .0)))
+    let p = asked (c .before .before .before .before .before .before .before .before .before .before .before) in (
+      good-with-most _ _ _ (p .range .tables),
+      (
+        record { nonempty = omega arith; low-aligned = p .range .start-aligned; high-aligned = omega (arith, p .range); set-legal = p .set-legal; clear-legal = p .clear-legal },
+        omega (arith, c .before .before .before .before .before .before .before .capacity .ensures, c .before .before .before .before .before .before .before .before .extra-areas .ensures .0),
+      ),
+    )
 
 same-length-7 : tie.Need-same-length-7
 same-length-7 c = search needs
@@ -83,7 +86,7 @@ same-length-8 c = search needs
 
 returns-4 : tie.Need-returns-4
 returns-4 c =
-    protect-done _ _ _ _ _ _ _ _ (c .before .before .before .before .before .before .before .before .before .before .before .before .before .before .before .before .protect-answer .ensures) (passed (c .before .before .before .before .before .before .before .before .before .before .before .before .before .before ))
+    protect-done _ _ _ _ _ _ _ _ (c .before .before .before .before .before .before .before .before .before .before .before .before .before .before .before .before .protect-answer .ensures) (passed (c .before .before .before .before .before .before .before .before .before .before .before .before .before .before))
     _ _ _ (omega (arith, c .before .before .before .before .before .before .before .before .before .before .capacity .ensures, c .before .before .before .before .before .before .before .before .before .before .before .extra-areas .ensures .0, c .before .before .before .before .before .before .before .before .before .if3 .left))
     (c .before .before .protect-list .ensures .1) (c .before .before .before .before .before .before .reflag-areas .ensures) (c .before .before .protect-list .ensures .0)
 
