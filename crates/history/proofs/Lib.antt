@@ -1,0 +1,9 @@
+pub mod Accepting
+pub mod Cases
+pub mod Counting
+pub mod Entries
+pub mod Finding
+pub mod Following
+pub mod History
+pub mod Lookups
+pub mod Striking
