@@ -1,10 +1,8 @@
 -- Laws of areas: the good test as facts, both ways, and what a part of a good area is. Assumes nothing.
-use Prim.Native.Nat.{ℕ, _+_, _*_, _/_, _%_, _≤_, _<_}
-use mathlib.Core.Path.{_≡_, refl, sym, ap, _∙_}
-use mathlib.Core.Bool.{Bool, true, false, _&&_, _||_, and-true}
-use mathlib.Core.List.{List, [], _∷_}
+use Prim.Native.Nat.{ℕ, _/_, _%_, _≤_, _<_}
+use mathlib.Core.Path.{_≡_, refl, _∙_}
+use mathlib.Core.Bool.{true, false, _&&_, _||_, and-true}
 use native.Mathlib.Omega.{arith}
-use lib.Dec.{leb, ltb, eqb}
 use borrow.Author.Tests.{lt-ltb, le-leb, eq-eqb, ltb-true, leb-true, eqb-true}
 use Rattle.lists.specs.Every.{every}
 use Rattle.lists.proofs.Every.{every-at, refuted}
@@ -12,7 +10,7 @@ use Rattle.page_table.specs.Limits.{pageSize, maxFlags}
 use Rattle.lists.proofs.Each.{range-parts, range-apart}
 use Rattle.page_table.specs.Frames.{backendFits}
 use Rattle.page_table.proofs.Frames.{fits-part}
-use Rattle.area.specs.Area.{aligned, firstPage, endPage, areaTests, goodArea, largestSpace, holds, areaEntry, part}
+use Rattle.area.specs.Area.{aligned, firstPage, endPage, areaTests, goodArea, holds, areaEntry, part}
 use Rattle.area.specs.declared.Area.{Area}
 
 pub record Good (space : ℕ) (a : Area) : Type 0 where

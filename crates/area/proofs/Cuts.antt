@@ -1,13 +1,13 @@
 -- Laws of the cuts: each answer from its test, and what an accepted cut tells. Assumes nothing.
 use Prim.Native.Nat.{ℕ, _+_, _-_, _%_, _≤_, _<_}
 use mathlib.Core.Path.{_≡_, refl, sym, ap, _∙_}
-use mathlib.Core.Bool.{Bool, true, false, not, _&&_, and-false}
+use mathlib.Core.Bool.{Bool, true, false, and-false}
 use native.Mathlib.Omega.{arith}
 use native.Mathlib.Decide.{decLt, ℕ-discrete}
-use lib.Dec.{ltb, eqb}
+use lib.Dec.{ltb}
 use borrow.Author.Tests.{lt-ltb, le-ltb, eq-eqb, ne-eqb}
 use Rattle.page_table.specs.Limits.{pageSize}
-use Rattle.area.specs.Answer.{answer, Reply, reply}
+use Rattle.area.specs.Answer.{answer, reply}
 use Rattle.area.specs.Area.{aligned, goodArea, largestSpace, part, nothing}
 use Rattle.area.specs.Cut.{cutTests, cutAnswer, Pair, pair, splitOutcome, splitRule, shrunkOutcome, sizeAnswer, shrinkLeftRule, shrinkRightRule}
 use Rattle.area.specs.declared.Area.{Area}

@@ -1,7 +1,7 @@
 -- One area: when good tables could hold it, which pages it has and what it says of each (01, "The two tables").
 -- Laws: `proofs/Areas.antt`. Assumes nothing.
 use Prim.Native.Nat.{ℕ, _*_, _/_, _%_}
-use mathlib.Core.Bool.{Bool, _&&_}
+use mathlib.Core.Bool.{Bool}
 use mathlib.Core.List.{List, [], _∷_}
 use lib.Dec.{leb, ltb, eqb}
 use Rattle.lists.specs.Each.{inRange}

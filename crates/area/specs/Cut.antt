@@ -2,7 +2,7 @@
 -- with 2 an unaligned cut, with 3 one not strictly inside. A refusal returns the area unchanged, and an all-zero right part."
 -- Each rule is total. Laws: `proofs/Cuts.antt`. Assumes nothing.
 use Prim.Native.Nat.{ℕ, _+_, _-_}
-use mathlib.Core.Bool.{Bool, not, _&&_}
+use mathlib.Core.Bool.{not, _&&_}
 use mathlib.Core.List.{List, [], _∷_}
 use lib.Dec.{ltb}
 use Rattle.area.specs.Answer.{number, Test, refuse, answer, Reply, reply, replyBy}

@@ -1,18 +1,16 @@
 -- Laws of the good test: each row's part as facts, how it goes row by row, and what good tables tell. Assumes nothing.
 use Prim.Native.Nat.{ℕ, zero, suc, _+_, _-_, _*_, _≤_, _<_}
-use mathlib.Core.Path.{_≡_, refl, sym, ap, _∙_}
+use mathlib.Core.Path.{_≡_, sym, _∙_}
 use mathlib.Core.Bool.{Bool, true, false, _&&_, and-true, true≢false}
-use mathlib.Core.List.{List, [], _∷_}
+use mathlib.Core.List.{List}
 use native.Mathlib.Omega.{arith}
 use native.Mathlib.Nat.{sub-zero}
-use lib.Dec.{leb}
 use lib.ListN.{length, drop}
 use borrow.Author.Tests.{le-leb, leb-true}
 use Rattle.lists.specs.Every.{every}
 use Rattle.lists.proofs.Every.{and-left, and-right, every-at, refuted}
 use Rattle.page_table.specs.Limits.{maxPages}
 use Rattle.area.specs.Area.{goodArea}
-use Rattle.area.specs.declared.Area.{Area}
 use Rattle.area.proofs.Areas.{Good, good-is}
 use Rattle.area_list.specs.Layout.{wordsPerArea, capacityOf, legalWord, LegalRow, rowOf, rowAt, areaOf, rows}
 use Rattle.area_list.specs.Good.{spaceOf, rowTests, goodRow, goodRows, tableTests, goodTables}

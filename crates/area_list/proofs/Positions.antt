@@ -1,7 +1,7 @@
 -- Laws of positions: what a position parts, binary search turn by turn, and that good tables are sorted. Assumes nothing.
 use Prim.Native.Nat.{ℕ, zero, suc, _+_, _-_, _*_, _≤_, _<_}
 use mathlib.Core.Path.{_≡_, refl, sym, ap, _∙_}
-use mathlib.Core.Bool.{Bool, true, false, cond, and-false}
+use mathlib.Core.Bool.{Bool, true, false, and-false}
 use mathlib.Core.List.{List, [], _∷_}
 use native.Mathlib.Omega.{arith}
 use native.Mathlib.Decide.{decLt}
@@ -11,9 +11,9 @@ use lib.ListN.{length, getD}
 use borrow.Author.Tests.{lt-ltb, le-ltb, le-leb, lt-leb, ltb-true, ltb-false}
 use Rattle.area.specs.Area.{nothing}
 use Rattle.area.specs.declared.Area.{Area}
-use Rattle.area_list.specs.Layout.{wordsPerArea, LegalRow, rowAt, areaOf, rows}
+use Rattle.area_list.specs.Layout.{wordsPerArea, rowAt, rows}
 use Rattle.area_list.specs.Position.{firstWhere, endsPast, startsFrom, contains, Rising, Boundary, SortedRows}
-use Rattle.area_list.proofs.Ordered.{Ordered, good-at, starts-rise, ends-rise}
+use Rattle.area_list.proofs.Ordered.{good-at, starts-rise, ends-rise}
 use Rattle.area_list.proofs.Rows.{row-words, length-rows, rows-at}
 use Rattle.area_list.proofs.Goodness.{GoodTables, count-fits}
 

@@ -1,21 +1,18 @@
 -- Laws of the words: what a backend's word is, and where the areas lie. Assumes nothing.
 use Prim.Native.Nat.{ℕ, zero, suc, _+_, _-_, _*_, _^_, _≤_, _<_}
 use mathlib.Core.Path.{_≡_, refl, sym, ap, _∙_}
-use mathlib.Core.Bool.{Bool, true, false, _&&_, _||_, cond, true≢false}
-use mathlib.Core.List.{List, [], _∷_}
+use mathlib.Core.Bool.{true, false, true≢false}
+use mathlib.Core.List.{List}
 use native.Mathlib.Omega.{arith}
-use native.Mathlib.Decide.{decLe, decLt, ℕ-discrete}
+use native.Mathlib.Decide.{decLe}
 use native.Mathlib.Nat.{add-zero}
-use lib.Dec.{leb, ltb, eqb}
+use lib.Dec.{ltb}
 use lib.ListN.{length, getD, drop}
 use lib.Seq.{getD-drop, drop-drop}
-use borrow.Author.Tests.{lt-ltb, le-ltb, le-leb, lt-leb, eq-eqb, ne-eqb, ltb-true}
-use Rattle.page_table.specs.declared.Backend.{Backend}
+use borrow.Author.Tests.{le-leb, lt-leb, eq-eqb, ne-eqb, ltb-true}
 use Rattle.page_table.specs.declared.Backend.the-variants.{Lazy, Linear}
 use Rattle.area.specs.Area.{nothing}
-use Rattle.area.specs.declared.Area.{Area}
-use Rattle.area_list.specs.Layout.{wordsPerArea, legalWord, backendOf, wordOf, rowWith, rowOf, rowAt, areaOf, rows}
-use Rattle.area_list.specs.declared.Row.{Row}
+use Rattle.area_list.specs.Layout.{wordsPerArea, legalWord, backendOf, rowWith, rowOf, rowAt, areaOf, rows}
 
 -- ---- a backend's word
 

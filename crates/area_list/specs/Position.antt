@@ -1,6 +1,5 @@
 -- Positions in the list of areas, and what a list has to be for binary search. Laws: `proofs/Positions.antt`. Assumes nothing.
 use Prim.Native.Nat.{ℕ, suc, _+_, _*_, _≤_, _<_}
-use mathlib.Core.Path.{_≡_}
 use mathlib.Core.Bool.{Bool, _&&_, cond}
 use mathlib.Core.List.{List, [], _∷_}
 use lib.Dec.{leb, ltb}

@@ -1,22 +1,21 @@
 -- Laws of gaps: the pieces of one slot, and the whole list around a gap. Assumes nothing.
-use Prim.Native.Nat.{ℕ, _+_, _-_, _≤_, _<_}
-use mathlib.Core.Path.{_≡_, refl, sym, ap, _∙_}
-use mathlib.Core.Bool.{Bool, true, false, cond}
+use Prim.Native.Nat.{ℕ, _+_, _≤_, _<_}
+use mathlib.Core.Path.{_≡_, refl, sym, _∙_}
+use mathlib.Core.Bool.{true, false}
 use mathlib.Core.List.{List, [], _∷_, _++_, append-assoc}
 use native.Mathlib.Omega.{arith}
 use native.Mathlib.Decide.{decLe}
 use native.Mathlib.Nat.{add-zero}
-use lib.ListN.{length, getD, take, drop, drop-of-length-le}
-use borrow.Author.Tests.{lt-ltb, le-ltb}
+use lib.ListN.{length, getD, drop, drop-of-length-le}
 use Rattle.area.specs.Area.{part, nothing}
 use Rattle.area.specs.declared.Area.{Area}
 use Rattle.area_list.specs.Store.{partsOf, spliced}
 use Rattle.area_list.specs.declared.slots.Parts.{Parts}
 use Rattle.area_list.specs.Position.{firstWhere, endsPast}
 use Rattle.area_list.proofs.Ordered.{Ordered}
-use Rattle.area_list.proofs.Positions.{First, first, ended, not-ended}
-use Rattle.effects.specs.Lists.{piece, cut, insert}
-use Rattle.effects.proofs.Cutting.{leftOf, trimmed, left-yes, left-no, trimmed-here, trimmed-none, cut-is, insert-is}
+use Rattle.area_list.proofs.Positions.{first, ended, not-ended}
+use Rattle.effects.specs.Lists.{cut, insert}
+use Rattle.effects.proofs.Cutting.{leftOf, left-yes, left-no, trimmed-here, trimmed-none, cut-is, insert-is}
 use Rattle.changes.specs.Gap.{pieceOf, taken, RightOf, Cuts, Lays}
 use Rattle.changes.specs.declared.Piece.{Piece}
 use Rattle.changes.specs.declared.Gap.{Gap}

@@ -1,13 +1,13 @@
 -- Laws of cutting and inserting: what becomes of each area, the whole list by positions, and that a good list stays good.
 -- Assumes nothing.
-use Prim.Native.Nat.{ℕ, zero, suc, _+_, _%_, _≤_, _<_}
+use Prim.Native.Nat.{ℕ, _%_, _≤_, _<_}
 use mathlib.Core.Path.{_≡_, refl, sym, ap, _∙_}
 use mathlib.Core.Bool.{Bool, true, false, _||_, cond, true≢false}
-use mathlib.Core.List.{List, [], _∷_, _++_, flatMap, append-assoc, append-nil}
+use mathlib.Core.List.{List, [], _∷_, _++_, flatMap, append-assoc}
 use native.Mathlib.Omega.{arith}
 use native.Mathlib.Decide.{decLt, decLe}
-use lib.Dec.{leb, ltb}
-use lib.ListN.{length, take, drop}
+use lib.Dec.{ltb}
+use lib.ListN.{take, drop}
 use borrow.Author.Tests.{lt-ltb, le-ltb, le-leb, lt-leb}
 use Rattle.page_table.specs.Limits.{pageSize}
 use Rattle.area.specs.Area.{part}
@@ -18,7 +18,7 @@ use Rattle.area_list.specs.Meet.{shares, sharesAny}
 use Rattle.area_list.proofs.Ordered.{Ordered, none-left, one-more, weaken}
 use Rattle.area_list.proofs.Positions.{first-yes, first-no}
 use Rattle.area_list.proofs.Meets.{shares-yes, shares-before, shares-after, shares-nothing}
-use Rattle.effects.specs.Lists.{piece, leftPiece, rightPiece, outside, cut, insert}
+use Rattle.effects.specs.Lists.{leftPiece, rightPiece, outside, cut, insert}
 
 -- ---- one area
 

@@ -1,20 +1,18 @@
 -- Laws of effects on pages by area: an area at a time, as the loops go. Assumes nothing.
-use Prim.Native.Nat.{ℕ, zero, suc, _/_, _*_, _≤_, _<_, min, max}
+use Prim.Native.Nat.{ℕ, _/_, _≤_, _<_, min, max}
 use mathlib.Core.Path.{_≡_, refl, sym, ap, _∙_}
-use mathlib.Core.Bool.{Bool, true, false, cond}
 use mathlib.Core.List.{List, [], _∷_}
 use native.Mathlib.Omega.{arith}
-use native.Mathlib.Decide.{decLt, decLe}
+use native.Mathlib.Decide.{decLt}
 use lib.ListN.{length, getD, drop}
 use borrow.Author.Tests.{lt-ltb, le-ltb}
-use Rattle.lists.specs.Each.{inRange, within}
+use Rattle.lists.specs.Each.{within}
 use Rattle.lists.proofs.Each.{in-range, before-range, after-range, place, length-within, within-in, within-before, within-after, within-is}
 use Rattle.page_table.specs.Limits.{pageSize}
 use Rattle.area.specs.Area.{firstPage, endPage, holds}
 use Rattle.area.specs.declared.Area.{Area}
-use Rattle.area.proofs.Areas.{Good}
 use Rattle.area_list.specs.Position.{firstWhere, endsPast}
-use Rattle.area_list.proofs.Ordered.{Ordered, none-left, one-more}
+use Rattle.area_list.proofs.Ordered.{Ordered, one-more}
 use Rattle.effects.specs.Pages.{onAreas, inAreas}
 
 -- ---- one page

@@ -1,8 +1,8 @@
 -- What the changes do to the page entries, page by page (01, "The calls"). Laws: `proofs/Paging.antt`. Assumes nothing.
 use Prim.Native.Nat.{ℕ, _/_}
-use mathlib.Core.Bool.{Bool, cond}
+use mathlib.Core.Bool.{cond}
 use mathlib.Core.List.{List, [], _∷_}
-use Rattle.lists.specs.Each.{each, within}
+use Rattle.lists.specs.Each.{within}
 use Rattle.page_table.specs.Limits.{pageSize}
 use Rattle.page_table.specs.Change.{writes, wipes, reflags}
 use Rattle.area.specs.Area.{firstPage, endPage, holds}

@@ -6,7 +6,7 @@ use mathlib.Core.List.{List}
 use native.Mathlib.Omega.{arith}
 use lib.ListN.{length, getD, set, length-set}
 use Rattle.lists.specs.Each.{within}
-use Rattle.lists.proofs.Each.{length-within, within-none, within-more, within-cut}
+use Rattle.lists.proofs.Each.{within-none, within-more, within-cut}
 
 -- the loop runs over the numbers from first up to stop, and is at k: xs₀ became xs
 pub record Sweep (f : ℕ → ℕ → ℕ) (first stop k : ℕ) (xs₀ xs : List ℕ) : Type 0 where

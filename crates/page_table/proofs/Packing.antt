@@ -1,10 +1,10 @@
 -- Laws of entries: what was packed is taken apart again, a packed entry has bits 6 and 7 clear and is never 0, and what an
 -- area's entry says of its page. Assumes nothing.
-use Prim.Native.Nat.{ℕ, _+_, _*_, _≤_, _<_, _^_}
+use Prim.Native.Nat.{ℕ, _*_, _≤_, _<_, _^_}
 use mathlib.Core.Path.{_≡_, refl, sym, _∙_}
 use mathlib.Core.Bool.{Bool, true, false, cond}
 use native.Mathlib.Omega.{arith}
-use borrow.Author.Tests.{eq-eqb, ne-eqb}
+use borrow.Author.Tests.{eq-eqb}
 use Rattle.page_table.specs.Limits.{frameLimit, maxFlags}
 use Rattle.page_table.specs.Entry.{bits, packedOf, flagsOf, isMapped, isLazy, frameOf, linearFrame, entryOf}
 use Rattle.page_table.specs.declared.Backend.{Backend}

@@ -1,6 +1,6 @@
 -- 01's "Numbers to check by" for entries and frames, as rows: what the rules give, and what 01 says.
 -- Their test is `proofs/Cases.antt`. Assumes nothing.
-use Prim.Native.Nat.{ℕ, _-_, _^_}
+use Prim.Native.Nat.{_-_, _^_}
 use mathlib.Core.List.{List, [], _∷_}
 use Rattle.lists.specs.Case.{Case, row, flag}
 use Rattle.page_table.specs.Entry.{linearFrame, entryOf, frameOf}

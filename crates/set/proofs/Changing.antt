@@ -1,7 +1,7 @@
 -- Laws of the changes: the outcome at each exit of the code, over plain values. Assumes nothing.
-use Prim.Native.Nat.{ℕ, zero, suc, _+_, _-_, _/_, _≤_, _<_}
+use Prim.Native.Nat.{ℕ, _+_, _-_, _/_, _≤_, _<_}
 use mathlib.Core.Path.{_≡_, refl, sym, ap, _∙_}
-use mathlib.Core.Bool.{Bool, true, false, not, _&&_, cond}
+use mathlib.Core.Bool.{Bool, true, false, not, _&&_}
 use mathlib.Core.List.{List, [], _∷_, _++_}
 use native.Mathlib.Omega.{arith}
 use native.Mathlib.Decide.{decLe, ℕ-discrete}
@@ -14,10 +14,9 @@ use Rattle.page_table.specs.Limits.{pageSize, maxFlags}
 use Rattle.page_table.specs.Change.{writes}
 use Rattle.page_table.specs.Frames.{backendFits}
 use Rattle.page_table.specs.declared.Backend.{Backend}
-use Rattle.area.specs.Answer.{answer, Test, refuse, Reply, reply, replyBy}
-use Rattle.area.specs.Area.{aligned}
+use Rattle.area.specs.Answer.{answer, Test, refuse, reply}
 use Rattle.area.specs.declared.Area.{Area}
-use Rattle.area.proofs.Answers.{reply-accepted, reply-refused, reply-zero, reply-suc}
+use Rattle.area.proofs.Answers.{reply-refused, reply-zero, reply-suc}
 use Rattle.area_list.specs.Layout.{maxAreas, capacityOf, rows}
 use Rattle.area_list.specs.Good.{spaceOf, goodTables}
 use Rattle.area_list.specs.Meet.{sharesAny}
@@ -27,7 +26,6 @@ use Rattle.area_list.proofs.Rows.{length-rows}
 use Rattle.area_list.proofs.Goodness.{GoodTables, tables-are}
 use Rattle.area_list.proofs.Positions.{sorted}
 use Rattle.area_list.proofs.Stores.{store-same, length-parts, length-spliced}
-use Rattle.effects.specs.Lists.{cut}
 use Rattle.effects.specs.Pages.{onAreas, wipesArea, cutPages, mapPages, protectsArea, protectPages}
 use Rattle.effects.proofs.Cutting.{cut-empty}
 use Rattle.effects.proofs.Protecting.{protect-empty}

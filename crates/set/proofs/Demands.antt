@@ -1,9 +1,9 @@
 -- Demand 1 for all calls at once: whatever the arguments and the tables hold, the answer is one of 01's numbers, and where it is
 -- not 0 both tables and the count are as they were. And that no second outcome meets a change's promise. Assumes nothing.
-use Prim.Native.Nat.{ℕ, zero, suc, _+_, _/_, _≤_}
-use mathlib.Core.Path.{_≡_, refl, sym, ap, _∙_}
+use Prim.Native.Nat.{ℕ, zero, suc, _≤_}
+use mathlib.Core.Path.{_≡_, refl, _∙_}
 use mathlib.Core.Bool.{Bool, true, false, cond}
-use mathlib.Core.List.{List, [], _∷_, _++_}
+use mathlib.Core.List.{List}
 use native.Mathlib.Omega.{arith}
 use Rattle.area.specs.Answer.{answer, Test, Reply, reply, replyBy}
 use Rattle.area.specs.declared.Area.{Area}
@@ -11,7 +11,7 @@ use Rattle.area.proofs.Answers.{reply-answer, one-outcome}
 use Rattle.search.specs.Free.{Ask, FreeOutcome, freeRule, isFree, lowestFree, freeGives}
 use Rattle.set.specs.Tests.{tablesAnswer, rangeAnswer}
 use Rattle.set.specs.Question.{lenRule, emptyRule, overlapsRule, findAnswer, findRule, searchTests, searchAnswer, placedBy, freeAreaRule}
-use Rattle.set.specs.Change.{Tables, tables, changedOutcome, unmapRule, clearRule, mapFirstTests, mapRule, protectFirstTests, protectRule}
+use Rattle.set.specs.Change.{Tables, tables, changedOutcome, unmapRule, clearRule, mapRule, protectRule}
 use Rattle.set.specs.declared.Changed.{Changed}
 use Rattle.set.specs.Calls.{Call, lenCall, emptyCall, overlapsCall, findCall, entriesCall, searchCall, mapCall, unmapCall, clearCall, protectCall, called}
 use Rattle.set.proofs.Answering.{Refuses, no-test, one-test, answer-known, range-refuses}

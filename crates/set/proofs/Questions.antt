@@ -1,7 +1,7 @@
 -- Laws of the questions: the outcomes of find and of the search at each answer, what overlaps says, which area and entries are
 -- found, and that no second result has a rule's outcome. Assumes nothing.
 use Prim.Native.Nat.{ℕ, zero, suc, _+_, _-_, _%_, _≤_, _<_, max}
-use mathlib.Core.Path.{_≡_, refl, sym, ap}
+use mathlib.Core.Path.{_≡_, refl, sym}
 use mathlib.Core.Logic.{_↔_}
 use mathlib.Core.Bool.{Bool, true, false, true≢false}
 use mathlib.Core.List.{List, [], _∷_}
@@ -11,7 +11,7 @@ use lib.ListN.{length, getD, length-take, length-drop}
 use borrow.Author.Tests.{le-leb, lt-leb, lt-ltb, le-ltb, eq-eqb, ne-eqb}
 use Rattle.lists.proofs.Every.{by-test}
 use Rattle.page_table.specs.Limits.{pageSize}
-use Rattle.area.specs.Answer.{answer, Reply, reply, replyBy}
+use Rattle.area.specs.Answer.{answer, reply, replyBy}
 use Rattle.area.specs.Area.{firstPage, endPage, nothing}
 use Rattle.area.specs.declared.Area.{Area}
 use Rattle.area.proofs.Answers.{reply-zero, reply-suc, reply-refused, one-outcome}

@@ -1,7 +1,7 @@
 -- 01's "Numbers to check by" for the changes, as rows: what the rules give, and what 01 says. 01 has 4,096 pages; the tables here have
 -- 32, which hold the same areas, so that the test computes in seconds.
 -- Their test is `proofs/Cases.antt`. Assumes nothing.
-use Prim.Native.Nat.{ℕ, _+_}
+use Prim.Native.Nat.{ℕ}
 use mathlib.Core.Bool.{false}
 use mathlib.Core.List.{List, [], _∷_}
 use lib.ListN.{take, replicate}

@@ -1,6 +1,6 @@
 -- `any_overlap` meets its contract: the first area that ends past the start of the range decides. Assumes nothing.
 use borrow.Author.Needs.{needs}
-use mathlib.Core.Path.{_≡_, _∙_, sym}
+use mathlib.Core.Path.{sym}
 use Rattle.area_list.proofs.Rows.{length-rows}
 use Rattle.area_list.proofs.Positions.{rows-rise}
 use Rattle.area_list.proofs.Meets.{shares-nothing, any-no, none-past, first-decides}

@@ -1,6 +1,6 @@
 -- `first_holding` meets its contract: the first area that ends past the address decides. Assumes nothing.
 use borrow.Author.Needs.{needs}
-use mathlib.Core.Path.{_≡_, _∙_, sym}
+use mathlib.Core.Path.{_∙_, sym}
 use Rattle.area_list.proofs.Rows.{length-rows}
 use Rattle.area_list.proofs.Positions.{rows-rise, holds-none, holds-at, holds-gap}
 use Rattle.area_list.proofs.first_holding.Statement.{statement}

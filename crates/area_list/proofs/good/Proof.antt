@@ -3,13 +3,11 @@
 use native.Mathlib.Omega.{arith}
 use borrow.Author.Needs.{needs}
 use Prim.Native.Nat.{_*_, _-_, _≤_}
-use mathlib.Core.Path.{_≡_, _∙_, sym, ap}
-use mathlib.Core.Bool.{true, false}
+use mathlib.Core.Path.{_≡_, _∙_, sym}
 use lib.ListN.{length, drop}
 use borrow.Author.Tests.{not-true, not-false}
-use Rattle.page_table.specs.Limits.{maxPages}
 use Rattle.area_list.specs.Layout.{wordsPerArea, capacityOf}
-use Rattle.area_list.specs.Good.{spaceOf, goodRow, goodRows, goodTables}
+use Rattle.area_list.specs.Good.{spaceOf, goodRows, goodTables}
 use Rattle.area_list.proofs.Goodness.{not-tables, rows-decide, no-rows, bad-row, good-row, count-fits}
 use Rattle.area_list.proofs.good.Statement.{statement}
 use Rattle.area_list.proofs.good.Tie as tie

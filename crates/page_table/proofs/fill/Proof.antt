@@ -1,9 +1,8 @@
 -- `fill` meets its contract: the loop is a `Sweep` of one entry. Assumes nothing.
-use Prim.Native.Nat.{_-_, min}
-use mathlib.Core.Path.{_≡_, refl, sym}
+use Prim.Native.Nat.{_-_}
+use mathlib.Core.Path.{refl}
 use native.Mathlib.Omega.{arith}
 use borrow.Author.Needs.{needs}
-use lib.ListN.{length}
 use Rattle.lists.proofs.Sweep.{Sweep, begins, goes-on, ends}
 use Rattle.page_table.proofs.fill.Statement.{statement}
 use Rattle.page_table.proofs.fill.Tie as tie

@@ -1,9 +1,8 @@
 -- `fill_linear` meets its contract: the loop is a `Sweep` of each page's own entry. Assumes nothing.
-use Prim.Native.Nat.{_-_, min}
-use mathlib.Core.Path.{_≡_, _∙_}
+use Prim.Native.Nat.{_-_}
+use mathlib.Core.Path.{_∙_}
 use native.Mathlib.Omega.{arith}
 use borrow.Author.Needs.{needs}
-use lib.ListN.{length}
 use Rattle.page_table.specs.Entry.{entryOf}
 use Rattle.page_table.specs.Change.{writes}
 use Rattle.page_table.specs.declared.Backend.the-variants.{Linear}

@@ -1,6 +1,6 @@
 -- `frames_fit` meets its contract. The loop's invariant: the answer for the whole range is the answer for what is left of it.
 -- The measure is the number of pages left. Assumes nothing.
-use Prim.Native.Nat.{_-_, _≤_}
+use Prim.Native.Nat.{_-_}
 use mathlib.Core.Path.{_≡_, _∙_, refl, sym}
 use native.Mathlib.Omega.{arith}
 use borrow.Author.Needs.{needs}

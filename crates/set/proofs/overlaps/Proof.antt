@@ -8,7 +8,6 @@ use Rattle.area_list.proofs.Positions.{sorted}
 use Rattle.area.specs.Answer.{number}
 use Rattle.area.proofs.Answers.{reply-accepted, reply-refused}
 use Rattle.set.specs.Question.{overlapsRule}
-use Rattle.set.specs.Tests.{rangeAnswer}
 use Rattle.set.proofs.Answering.{Range, range-is}
 use Rattle.set.proofs.overlaps.Statement.{statement}
 use Rattle.set.proofs.overlaps.Tie as tie

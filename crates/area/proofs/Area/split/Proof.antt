@@ -1,5 +1,5 @@
 -- `Area::split` meets its contract. Assumes nothing.
-use mathlib.Core.Path.{_≡_, _∙_, sym}
+use mathlib.Core.Path.{_∙_, sym}
 use borrow.Author.Needs.{needs}
 use borrow.Author.Tests.{eqb-true, eqb-false}
 use Rattle.area.proofs.Cuts.{split-accepted, split-refused}

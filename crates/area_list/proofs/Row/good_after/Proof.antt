@@ -2,11 +2,9 @@
 -- decides. Assumes nothing.
 use native.Mathlib.Omega.{arith}
 use borrow.Author.Needs.{needs}
-use mathlib.Core.Path.{_≡_, _∙_, sym, ap}
+use mathlib.Core.Path.{_≡_, _∙_, sym}
 use mathlib.Core.Bool.{true}
 use borrow.Author.Tests.{not-true, not-false}
-use Rattle.area.specs.Area.{goodArea}
-use Rattle.area.specs.declared.Area.{Area}
 use Rattle.area_list.specs.Layout.{legalWord}
 use Rattle.area_list.proofs.Goodness.{not-row, illegal-row, area-decides}
 use Rattle.area_list.proofs.Row.good_after.Statement.{statement}

@@ -1,5 +1,5 @@
 -- `entry::flags` meets its contract: the mask of bits 0 to 3 is a remainder. Assumes nothing.
-use mathlib.Core.Path.{_∙_, ap}
+use mathlib.Core.Path.{_∙_}
 use native.Mathlib.Omega.{arith}
 use lib.Bits.{and-mask}
 use Rattle.page_table.specs.Entry.{flagsOf}
