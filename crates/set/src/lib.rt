@@ -25,7 +25,6 @@ use search::Free;
 use search::lowest_free;
 use search::power_of_two;
 ghost use mathlib.Core.Path.{_≡_};
-ghost use lib.ListN.{length};
 ghost use Rattle.area.specs.Answer.{number};
 ghost use Rattle.set.specs.Change.{changedOutcome, unmapRule, clearRule, mapFirstAnswer, mapRule, protectFirstAnswer, protectRule};
 ghost use Rattle.set.specs.Tests.{rangeAnswer};
