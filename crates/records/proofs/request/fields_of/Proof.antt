@@ -1,0 +1,63 @@
+-- `request::fields_of` meets its contract. Assumes nothing.
+use borrow.Author.Needs.{needs}
+use Rattle.records.specs.Request.{fieldsOf}
+use Rattle.records.proofs.request.fields_of.Statement.{statement}
+use Rattle.records.proofs.request.fields_of.Tie as tie
+
+word32-requires : tie.Need-word32-requires
+word32-requires c κs = search needs
+
+word64-requires : tie.Need-word64-requires
+word64-requires c κs = search needs
+
+word64-requires-2 : tie.Need-word64-requires-2
+word64-requires-2 c κs = search needs
+
+word64-requires-3 : tie.Need-word64-requires-3
+word64-requires-3 c κs = search needs
+
+element-copy-out-byte : tie.Need-element-copy-out-byte
+element-copy-out-byte c = search needs
+
+byte-requires : tie.Need-byte-requires
+byte-requires c κs = search needs
+
+element-copy-out-byte-2 : tie.Need-element-copy-out-byte-2
+element-copy-out-byte-2 c = search needs
+
+byte-requires-2 : tie.Need-byte-requires-2
+byte-requires-2 c κs = search needs
+
+element-copy-out-byte-3 : tie.Need-element-copy-out-byte-3
+element-copy-out-byte-3 c = search needs
+
+byte-requires-3 : tie.Need-byte-requires-3
+byte-requires-3 c κs = search needs
+
+element-copy-out-byte-4 : tie.Need-element-copy-out-byte-4
+element-copy-out-byte-4 c = search needs
+
+byte-requires-4 : tie.Need-byte-requires-4
+byte-requires-4 c κs = search needs
+
+returns : tie.Need-returns
+unfolding fieldsOf
+returns c = cc
+
+pub fields-of-spec : {M : Type 1} → statement M
+fields-of-spec =
+    tie.close
+    (tie.spec
+    word32-requires
+    word64-requires
+    word64-requires-2
+    word64-requires-3
+    element-copy-out-byte
+    byte-requires
+    element-copy-out-byte-2
+    byte-requires-2
+    element-copy-out-byte-3
+    byte-requires-3
+    element-copy-out-byte-4
+    byte-requires-4
+    returns)

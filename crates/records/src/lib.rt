@@ -1,0 +1,2 @@
+// The record program's work: requests from bytes, calls of the set, lines of the answers.
+pub mod request;
