@@ -1,2 +1,4 @@
+pub mod Feeding
 pub mod Lines
 pub mod Requests
+pub mod Steps

@@ -1,2 +1,4 @@
+pub mod Feed
 pub mod Line
 pub mod Request
+pub mod Step

@@ -43,9 +43,13 @@ rangeLength = 33
 abbrev pub longestLine : ℕ
 longestLine = 41
 
+-- "`no K` (K decimal)": no answer has a number of two digits
+abbrev pub noLine : ℕ → List ℕ
+noLine k = bytes "no " ++ (digit k ∷ bytes "\n")
+
 unfoldable pub lineBytes : Line → List ℕ
 lineBytes Ok = bytes "ok\n"
-lineBytes (No answer) = bytes "no " ++ (digit (number answer) ∷ bytes "\n")
+lineBytes (No answer) = noLine (number answer)
 lineBytes (In start end) = bytes "in " ++ (rangeBytes start end ++ bytes "\n")
 lineBytes (At a) = bytes "at " ++ (address a ++ bytes "\n")
 lineBytes Over = bytes "over\n"

@@ -7,7 +7,7 @@ use mathlib.Core.Path.{_≡_}
 use mathlib.Core.Bool.{Bool, true, false, _&&_, cond}
 use mathlib.Core.List.{List, [], _∷_}
 use lib.Dec.{eqb, leb}
-use lib.ListN.{getD}
+use lib.ListN.{length, getD}
 use Rattle.page_table.specs.declared.Backend.{Backend}
 use Rattle.page_table.specs.declared.Backend.the-variants.{Lazy, Linear}
 use Rattle.records.specs.declared.request.Fields.{Fields}
@@ -96,6 +96,6 @@ choices f =
 unfoldable pub requestBy : Fields → Request
 requestBy f = chosen (f .op) (choices f)
 
--- what the bytes of a record ask for
+-- what the bytes of a record ask for; bytes of another number are no record
 unfoldable pub requestOf : List ℕ → Request
-requestOf bytes = requestBy (fieldsOf bytes)
+requestOf bytes = cond (eqb (length bytes) recordSize) (requestBy (fieldsOf bytes)) Bad

@@ -7,7 +7,8 @@ ghost use mathlib.Core.Path.{_≡_};
 ghost use Prim.Native.Nat.{_+_, _^_, _≤_, _<_};
 ghost use mathlib.Core.Bool.{cond};
 ghost use lib.Dec.{eqb};
-ghost use Rattle.records.specs.Request.{numberAt, fieldsOf, Blank, besideRange, mapBy, searchBy, requestBy, requestOf};
+ghost use lib.ListN.{length};
+ghost use Rattle.records.specs.Request.{recordSize, numberAt, fieldsOf, Blank, besideRange, mapBy, searchBy, requestBy, requestOf};
 
 // Bytes in a record.
 pub const RECORD: usize = 32;
@@ -75,8 +76,8 @@ fn wide(x: u32) -> u64
 }
 
 // The number in four bytes, the lowest first.
-fn word32(bytes: &[u8; 32], at: usize) -> u32
-    requires { ⌜ at + 4 ≤ 32 ⌝ }
+fn word32(bytes: &[u8], at: usize) -> u32
+    requires { ⌜ at + 4 ≤ length (now bytes) ⌝ }
     ensures { λ r. ⌜ r ≡ numberAt (now (bytes .entry)) at 4 ⌝ }
 {
     let low = byte(bytes[at]) + 0x100 * byte(bytes[at + 1]);
@@ -85,8 +86,8 @@ fn word32(bytes: &[u8; 32], at: usize) -> u32
 }
 
 // The number in eight bytes, the lowest first.
-fn word64(bytes: &[u8; 32], at: usize) -> u64
-    requires { ⌜ at + 8 ≤ 32 ⌝ }
+fn word64(bytes: &[u8], at: usize) -> u64
+    requires { ⌜ at + 8 ≤ length (now bytes) ⌝ }
     ensures { λ r. ⌜ r ≡ numberAt (now (bytes .entry)) at 8 ⌝ }
 {
     let low = wide(word32(bytes, at));
@@ -94,7 +95,8 @@ fn word64(bytes: &[u8; 32], at: usize) -> u64
     low + 0x1_0000_0000 * high
 }
 
-fn fields_of(bytes: &[u8; 32]) -> Fields
+fn fields_of(bytes: &[u8]) -> Fields
+    requires { ⌜ length (now bytes) ≡ recordSize ⌝ }
     ensures { λ r. ⌜ r ≡ fieldsOf (now (bytes .entry)) ⌝ }
 {
     let delta = word32(bytes, 4);
@@ -217,9 +219,12 @@ impl Fields {
     }
 }
 
-// What a record asks for.
-pub fn decode(bytes: &[u8; 32]) -> Request
+// What a record asks for. Bytes of another length ask for nothing.
+pub fn decode(bytes: &[u8]) -> Request
     ensures { λ r. ⌜ r ≡ requestOf (now (bytes .entry)) ⌝ }
 {
+    if bytes.len() != RECORD {
+        return Request::Bad;
+    }
     fields_of(bytes).asked()
 }

@@ -16,26 +16,26 @@ word64-requires-2 c κs = search needs
 word64-requires-3 : tie.Need-word64-requires-3
 word64-requires-3 c κs = search needs
 
-element-copy-out-byte : tie.Need-element-copy-out-byte
-element-copy-out-byte c = search needs
+shared-slice-read-byte : tie.Need-shared-slice-read-byte
+shared-slice-read-byte c = search needs
 
 byte-requires : tie.Need-byte-requires
 byte-requires c κs = search needs
 
-element-copy-out-byte-2 : tie.Need-element-copy-out-byte-2
-element-copy-out-byte-2 c = search needs
+shared-slice-read-byte-2 : tie.Need-shared-slice-read-byte-2
+shared-slice-read-byte-2 c = search needs
 
 byte-requires-2 : tie.Need-byte-requires-2
 byte-requires-2 c κs = search needs
 
-element-copy-out-byte-3 : tie.Need-element-copy-out-byte-3
-element-copy-out-byte-3 c = search needs
+shared-slice-read-byte-3 : tie.Need-shared-slice-read-byte-3
+shared-slice-read-byte-3 c = search needs
 
 byte-requires-3 : tie.Need-byte-requires-3
 byte-requires-3 c κs = search needs
 
-element-copy-out-byte-4 : tie.Need-element-copy-out-byte-4
-element-copy-out-byte-4 c = search needs
+shared-slice-read-byte-4 : tie.Need-shared-slice-read-byte-4
+shared-slice-read-byte-4 c = search needs
 
 byte-requires-4 : tie.Need-byte-requires-4
 byte-requires-4 c κs = search needs
@@ -52,12 +52,12 @@ fields-of-spec =
     word64-requires
     word64-requires-2
     word64-requires-3
-    element-copy-out-byte
+    shared-slice-read-byte
     byte-requires
-    element-copy-out-byte-2
+    shared-slice-read-byte-2
     byte-requires-2
-    element-copy-out-byte-3
+    shared-slice-read-byte-3
     byte-requires-3
-    element-copy-out-byte-4
+    shared-slice-read-byte-4
     byte-requires-4
     returns)

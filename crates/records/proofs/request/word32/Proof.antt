@@ -5,8 +5,8 @@ use Rattle.records.proofs.Requests.{number-four}
 use Rattle.records.proofs.request.word32.Statement.{statement}
 use Rattle.records.proofs.request.word32.Tie as tie
 
-element-copy-out-byte : tie.Need-element-copy-out-byte
-element-copy-out-byte c = search needs
+shared-slice-read-byte : tie.Need-shared-slice-read-byte
+shared-slice-read-byte c = search needs
 
 byte-requires : tie.Need-byte-requires
 byte-requires c κs = search needs
@@ -14,8 +14,8 @@ byte-requires c κs = search needs
 add-byte : tie.Need-add-byte
 add-byte c = search needs
 
-element-copy-out-byte-2 : tie.Need-element-copy-out-byte-2
-element-copy-out-byte-2 c = search needs
+shared-slice-read-byte-2 : tie.Need-shared-slice-read-byte-2
+shared-slice-read-byte-2 c = search needs
 
 byte-requires-2 : tie.Need-byte-requires-2
 byte-requires-2 c κs = search needs
@@ -29,8 +29,8 @@ add-low c = search needs
 add-byte-2 : tie.Need-add-byte-2
 add-byte-2 c = search needs
 
-element-copy-out-byte-3 : tie.Need-element-copy-out-byte-3
-element-copy-out-byte-3 c = search needs
+shared-slice-read-byte-3 : tie.Need-shared-slice-read-byte-3
+shared-slice-read-byte-3 c = search needs
 
 byte-requires-3 : tie.Need-byte-requires-3
 byte-requires-3 c κs = search needs
@@ -38,8 +38,8 @@ byte-requires-3 c κs = search needs
 add-byte-3 : tie.Need-add-byte-3
 add-byte-3 c = search needs
 
-element-copy-out-byte-4 : tie.Need-element-copy-out-byte-4
-element-copy-out-byte-4 c = search needs
+shared-slice-read-byte-4 : tie.Need-shared-slice-read-byte-4
+shared-slice-read-byte-4 c = search needs
 
 byte-requires-4 : tie.Need-byte-requires-4
 byte-requires-4 c κs = search needs
@@ -57,24 +57,24 @@ add-result : tie.Need-add-result
 add-result c = search needs
 
 returns : tie.Need-returns
-returns c = omega (arith, number-four ((c .before .before .before .before .before .before .before .before .args .bytes .now)) (c .before .before .before .before .before .before .before .before .args .at))
+returns c = omega (arith, number-four (c .before .before .before .before .before .before .before .before .before .args .bytes .now) (c .before .before .before .before .before .before .before .before .before .args .at))
 
 pub word32-spec : {M : Type 1} → statement M
 word32-spec =
     tie.close
     (tie.spec
-    element-copy-out-byte
+    shared-slice-read-byte
     byte-requires
     add-byte
-    element-copy-out-byte-2
+    shared-slice-read-byte-2
     byte-requires-2
     mul-low
     add-low
     add-byte-2
-    element-copy-out-byte-3
+    shared-slice-read-byte-3
     byte-requires-3
     add-byte-3
-    element-copy-out-byte-4
+    shared-slice-read-byte-4
     byte-requires-4
     mul-high
     add-high

@@ -27,7 +27,7 @@ add-result : tie.Need-add-result
 add-result c = search needs
 
 returns : tie.Need-returns
-returns c = omega (arith, number-eight ((c .before .before .before .before .args .bytes .now)) (c .before .before .before .before .args .at))
+returns c = omega (arith, number-eight (c .before .before .before .before .before .args .bytes .now) (c .before .before .before .before .before .args .at))
 
 pub word64-spec : {M : Type 1} → statement M
 word64-spec =
