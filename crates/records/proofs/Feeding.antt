@@ -1,19 +1,29 @@
 -- Laws of the reader: a byte more, many bytes, the room that they need, the listing. Assumes nothing.
-use Prim.Native.Nat.{ℕ, zero, suc, _+_, _-_, _*_, _/_, _≤_, _<_}
+use Prim.Native.Nat.{ℕ, zero, suc, _+_, _-_, _≤_, _<_}
 use mathlib.Core.Path.{_≡_, refl, sym, ap, _∙_}
-use mathlib.Core.List.{List, [], _∷_, _++_}
+use mathlib.Core.Bool.{cond}
+use mathlib.Core.List.{List, [], _∷_, _++_, append-assoc, append-nil}
 use native.Mathlib.Numerals.{add-one}
 use native.Mathlib.Omega.{arith}
-use lib.ListN.{length, take, set, length-set, length-append}
-use lib.Seq.{take-suc-set, take-all, length-take-le}
-use borrow.Author.Tests.{lt-ltb, le-ltb}
-use Rattle.set.specs.Change.{Tables}
-use Rattle.records.specs.Line.{Put}
-use Rattle.records.specs.Request.{recordSize}
-use Rattle.records.specs.Step.{Ran, stepRule}
-use Rattle.records.specs.Feed.{Session, session, Heard, heard, wholeRecord, took, nextFilled}
-use Rattle.records.proofs.Lines.{puts}
+use lib.Dec.{eqb, ltb}
+use lib.ListN.{length, take, drop, set, getD, length-set}
+use lib.Seq.{take-suc-set, take-all, length-take-le, drop-cons, drop-length}
+use borrow.Author.Tests.{lt-ltb, le-ltb, ltb-true, ltb-false, eq-eqb, ne-eqb, eqb-true, eqb-false}
+use Rattle.lists.proofs.Every.{by-test}
 use Rattle.lists.proofs.Over.{over-nothing}
+use Rattle.area.specs.Answer.{answer, Reply, reply, replyBy}
+use Rattle.area.proofs.Answers.{reply-accepted, reply-refused}
+use Rattle.set.specs.Change.{Tables}
+use Rattle.set.specs.Question.{overlapsRule}
+use Rattle.records.specs.Line.{longestLine, lineBytes, Put}
+use Rattle.records.specs.Request.{recordSize, requestOf}
+use Rattle.records.specs.Step.{Ran, answerLine, runRule, stepRule}
+use Rattle.records.specs.Feed.{Session, session, Heard, heard, wholeRecord, took, nextFilled, after, takes, roomFor, feedAnswer, feedRule, settled}
+use Rattle.records.specs.declared.line.Line.{Line}
+use Rattle.records.specs.declared.line.Line.the-variants as line
+use Rattle.records.specs.declared.request.Request.{Request}
+use Rattle.records.specs.declared.request.Request.the-variants as request
+use Rattle.records.proofs.Lines.{puts, put-then, line-short}
 
 pub put-nothing : (out : List ℕ) (at : ℕ) → at ≤ length out → Put out at [] out at
 put-nothing out at h = puts out at [] out at (omega arith) (sym (over-nothing out at)) (omega arith)
@@ -50,3 +60,165 @@ module _ (t : Tables) (bytes : List ℕ) (filled byte : ℕ) (long : length byte
   whole-done r e h p =
       let said : wholeRecord r ≡ took (session t (take filled bytes)) byte = ap wholeRecord e ∙ sym (took-whole h) in
       (ap (λ (x : Heard). x .session) said, (rw (← said) p, rw (le-ltb (filled + 1) recordSize (omega arith))))
+
+-- ---- no line is longer than the longest
+
+answer-short : (n : ℕ) (line : Line) → length (answerLine n (lineBytes line)) ≤ longestLine
+unfolding answerLine
+answer-short zero line = line-short line
+answer-short (suc n) line = omega arith
+
+run-short : (t : Tables) (r : Request) → length (runRule t r .line) ≤ longestLine
+unfolding runRule
+run-short t (request.Map start size flags backend replace) = answer-short _ line.Ok
+run-short t (request.Unmap start size) = answer-short _ line.Ok
+run-short t (request.Protect start size set clear) = answer-short _ line.Ok
+run-short t (request.Find address) = answer-short _ (line.In _ _)
+run-short t (request.Overlaps start size) = answer-short _ (cond (overlapsRule (t .areas) (t .pages) (t .count) start size .value) line.Over line.Free)
+run-short t (request.Search hint size limit align) = answer-short _ (line.At _)
+run-short t request.Clear = answer-short _ line.Ok
+run-short t request.Bad = line-short line.Bad
+
+step-short : (t : Tables) (bytes : List ℕ) → length (stepRule t bytes .line) ≤ longestLine
+unfolding stepRule
+step-short t bytes = run-short t (requestOf bytes)
+
+-- room for a piece is room for its first byte and for the rest
+pub took-room : (s : Session) (byte m filled : ℕ) → length (s .held) ≡ filled → filled < recordSize
+    → length (took s byte .said) + roomFor (nextFilled filled + m) ≤ roomFor (filled + suc m)
+unfolding took
+took-room s byte m filled e h =
+    by-test (ltb (filled + 1) recordSize)
+    (λ p. rw (e, p) (omega arith))
+    (λ p. rw (e, p) (omega (arith, step-short (s .tables) (s .held ++ (byte ∷ [])), ltb-false (filled + 1) recordSize p)))
+
+-- ---- many bytes
+
+-- the loop over a piece: k bytes are taken, and what they said is put
+pub record Feeds (s₀ : Session) (input out₀ : List ℕ) (s : Session) (out : List ℕ) (at k : ℕ) : Type 0 where
+  pub said : List ℕ
+  pub upto : k ≤ length input
+  pub whole : takes s₀ input ≡ after said (takes s (drop k input))
+  pub put : Put out₀ 0 said out at
+
+pub feeds-begin : (s : Session) (input out : List ℕ) → Feeds s input out s out 0 0
+feeds-begin s input out = record { said = []; upto = omega arith; whole = refl; put = put-nothing out 0 (omega arith) }
+
+module _ {s₀ : Session} {input out₀ : List ℕ} {s : Session} {out : List ℕ} {at k : ℕ} (f : Feeds s₀ input out₀ s out at k) where
+  next-byte : k < length input → (byte : ℕ) → byte ≡ getD input k 0 → (s′ : Session) → s′ ≡ took s byte .session
+      → takes s (drop k input) ≡ after (took s byte .said) (takes s′ (drop (k + 1) input))
+  unfolding takes
+  next-byte h byte b s′ e = rw (drop-cons input k 0 h, e, b, add-one k)
+
+  pub feeds-on : k < length input → (byte : ℕ) → byte ≡ getD input k 0 → (s′ : Session) → s′ ≡ took s byte .session
+      → {out′ : List ℕ} {at′ : ℕ} → Put out at (took s byte .said) out′ at′ → Feeds s₀ input out₀ s′ out′ at′ (k + 1)
+  feeds-on h byte b s′ e p =
+      record {
+        said = f .said ++ took s byte .said;
+        upto = omega arith;
+        whole = f .whole ∙ rw (next-byte h byte b s′ e, append-assoc (f .said) (took s byte .said) (takes s′ (drop (k + 1) input) .said));
+        put = put-then (f .put) p;
+      }
+
+  ended : length input ≤ k → after (f .said) (takes s (drop k input)) ≡ heard s (f .said)
+  unfolding takes
+  ended h =
+      let all : length input ≡ k = omega (arith, f .upto) in
+      rw (← all, drop-length input, append-nil (f .said))
+
+  pub feeds-end : length input ≤ k → (s ≡ takes s₀ input .session) × Put out₀ 0 (takes s₀ input .said) out at
+  feeds-end h =
+      let all : takes s₀ input ≡ heard s (f .said) = f .whole ∙ ended h in
+      (sym (ap (λ (x : Heard). x .session) all), rw all (f .put))
+
+-- what the loop keeps of lengths, and the room that is left
+pub record Sized (areas₀ pages₀ bytes₀ input out₀ areas pages bytes out : List ℕ) (filled at k : ℕ) : Type 0 where
+  pub areas-long : length areas ≡ length areas₀
+  pub pages-long : length pages ≡ length pages₀
+  pub bytes-long : length bytes ≡ length bytes₀
+  pub out-long : length out ≡ length out₀
+  pub record-long : length bytes ≡ recordSize
+  pub part : filled < recordSize
+  pub room : at + roomFor (filled + (length input - k)) ≤ length out₀
+
+pub sized-begin : {areas pages bytes input out : List ℕ} {filled : ℕ} → length bytes ≡ recordSize → filled < recordSize → roomFor (filled + length input) ≤ length out
+    → Sized areas pages bytes input out areas pages bytes out filled 0 0
+sized-begin l p r =
+    record { areas-long = refl; pages-long = refl; bytes-long = refl; out-long = refl; record-long = l; part = p; room = omega arith }
+
+next-part : (filled : ℕ) → nextFilled filled < recordSize
+next-part filled = by-test (ltb (filled + 1) recordSize) (λ p. rw p (ltb-true _ _ p)) (λ p. rw p (omega arith))
+
+pub sized-on : {areas₀ pages₀ bytes₀ input out₀ areas pages bytes out : List ℕ} {filled at k : ℕ}
+    → Sized areas₀ pages₀ bytes₀ input out₀ areas pages bytes out filled at k → k < length input
+    → (t : Tables) (byte : ℕ) {areas′ pages′ bytes′ out′ : List ℕ} {filled′ at′ : ℕ}
+    → length areas′ ≡ length areas → length pages′ ≡ length pages → length bytes′ ≡ length bytes
+    → Put out at (took (session t (take filled bytes)) byte .said) out′ at′ → filled′ ≡ nextFilled filled
+    → Sized areas₀ pages₀ bytes₀ input out₀ areas′ pages′ bytes′ out′ filled′ at′ (k + 1)
+sized-on {input = input} {bytes = bytes} {filled = filled} {k = k} z h t byte a b c p e =
+    let held : length (take filled bytes) ≡ filled = length-take-le filled bytes (omega (arith, z .record-long, z .part)) in
+    record {
+      areas-long = a ∙ z .areas-long;
+      pages-long = b ∙ z .pages-long;
+      bytes-long = c ∙ z .bytes-long;
+      out-long = p .long ∙ z .out-long;
+      record-long = c ∙ z .record-long;
+      part = rw e (next-part filled);
+      room = rw e
+          (omega (
+            arith,
+            took-room (session t (take filled bytes)) byte (length input - (k + 1)) filled held (z .part),
+            z .room,
+            p .past,
+          ));
+    }
+
+-- ---- a piece of input
+
+module _ (size filled input room : ℕ) where
+  pub feed-size : (size ≡ recordSize → ⊥) → 3 ≡ feedAnswer size filled input room
+  unfolding feedAnswer answer
+  feed-size h = sym (rw (ne-eqb size recordSize h))
+
+  module _ (whole : size ≡ recordSize) where
+    pub feed-filled : recordSize ≤ filled → 3 ≡ feedAnswer size filled input room
+    unfolding feedAnswer answer
+    feed-filled h = sym (rw (eq-eqb size recordSize whole, le-ltb filled recordSize h))
+
+    pub feed-room : filled < recordSize → room < roomFor (filled + input) → 6 ≡ feedAnswer size filled input room
+    unfolding feedAnswer answer
+    feed-room h r = sym (rw (eq-eqb size recordSize whole, lt-ltb filled recordSize h, lt-ltb room (roomFor (filled + input)) r))
+
+    pub feed-passes : filled < recordSize → roomFor (filled + input) ≤ room → 0 ≡ feedAnswer size filled input room
+    unfolding feedAnswer answer
+    feed-passes h r = sym (rw (eq-eqb size recordSize whole, lt-ltb filled recordSize h, le-ltb room (roomFor (filled + input)) r))
+
+  pub feed-accepted : feedAnswer size filled input room ≡ 0 → (size ≡ recordSize) × ((filled < recordSize) × (roomFor (filled + input) ≤ room))
+  feed-accepted z =
+      by-test (eqb size recordSize)
+      (λ p. by-test (ltb filled recordSize)
+      (λ q. by-test (ltb room (roomFor (filled + input)))
+      (λ r. absurd (omega (arith, z, feed-room (eqb-true _ _ p) (ltb-true _ _ q) (ltb-true _ _ r))))
+      (λ r. (eqb-true _ _ p, (ltb-true _ _ q, ltb-false _ _ r))))
+      (λ q. absurd (omega (arith, z, feed-filled (eqb-true _ _ p) (ltb-false _ _ q)))))
+      (λ p. absurd (omega (arith, z, feed-size (eqb-false _ _ p))))
+
+module _ (t : Tables) (bytes : List ℕ) (filled : ℕ) (input out : List ℕ) (n : ℕ) (e : n ≡ feedAnswer (length bytes) filled (length input) (length out)) where
+  pub feed-refused : (n ≡ 0 → ⊥)
+      → (reply n (session t (take filled bytes)) ≡ settled (feedRule t bytes filled input (length out)))
+      × Put out 0 (feedRule t bytes filled input (length out) .value .said) out 0
+  unfolding feedRule
+  feed-refused h =
+      let rule : reply n (heard (session t (take filled bytes)) []) ≡ feedRule t bytes filled input (length out) =
+      rw e (reply-refused (heard (session t (take filled bytes)) []) _ (takes (session t (take filled bytes)) input) (λ z. h (e ∙ z))) in
+      (ap settled rule, rw (← rule) (put-nothing out 0 (omega arith)))
+
+  pub feed-done : n ≡ 0 → (s : Session) (out′ : List ℕ) (at : ℕ)
+      → (s ≡ takes (session t (take filled bytes)) input .session) × Put out 0 (takes (session t (take filled bytes)) input .said) out′ at
+      → (reply n s ≡ settled (feedRule t bytes filled input (length out)))
+      × Put out 0 (feedRule t bytes filled input (length out) .value .said) out′ at
+  unfolding feedRule
+  feed-done z s out′ at d =
+      let rule : reply n (takes (session t (take filled bytes)) input) ≡ feedRule t bytes filled input (length out) =
+      rw e (reply-accepted (heard (session t (take filled bytes)) []) _ (takes (session t (take filled bytes)) input) (sym e ∙ z)) in
+      (rw (d .0) (ap settled rule), rw (← rule) (d .1))

@@ -2,9 +2,9 @@
 -- At the end each area"), as a step over a state for each byte, so that input may come in pieces cut anywhere.
 -- Laws: `proofs/Feeding.antt`. Assumes nothing.
 use Prim.Native.Nat.{ℕ, zero, suc, _+_, _*_, _/_}
-use mathlib.Core.Bool.{not, cond}
+use mathlib.Core.Bool.{not, _&&_, cond}
 use mathlib.Core.List.{List, [], _∷_, _++_}
-use lib.Dec.{leb, ltb}
+use lib.Dec.{eqb, ltb}
 use lib.ListN.{length, take}
 use Rattle.area.specs.Answer.{Test, refuse, answer, Reply, reply, replyBy}
 use Rattle.area.specs.declared.Area.{Area}
@@ -59,13 +59,20 @@ takes s (byte ∷ bytes) = after (took s byte .said) (takes (took s byte .sessio
 abbrev pub roomFor : ℕ → ℕ
 roomFor bytes = longestLine * (bytes / recordSize)
 
--- a piece of input: 3 where the held bytes are no part of a record, 6 where there may be no room for what is said
-abbrev pub feedTests : ℕ → ℕ → ℕ → List Test
-feedTests filled bytes room = refuse 3 (leb recordSize filled) ∷ refuse 6 (ltb room (roomFor (filled + bytes))) ∷ []
+-- a piece of input: 3 where what is held is no part of a record, 6 where there may be no room for what is said
+abbrev pub feedTests : ℕ → ℕ → ℕ → ℕ → List Test
+feedTests size filled input room =
+    refuse 3 (not (eqb size recordSize && ltb filled recordSize))
+    ∷ refuse 6 (ltb room (roomFor (filled + input)))
+    ∷ []
 
+unfoldable pub feedAnswer : ℕ → ℕ → ℕ → ℕ → ℕ
+feedAnswer size filled input room = answer (feedTests size filled input room)
+
+-- the record's bytes so far are the first of those lent
 unfoldable pub feedRule : Tables → List ℕ → ℕ → List ℕ → ℕ → Reply Heard
 feedRule t bytes filled input room =
-    replyBy (heard (session t (take filled bytes)) []) (answer (feedTests filled (length input) room))
+    replyBy (heard (session t (take filled bytes)) []) (feedAnswer (length bytes) filled (length input) room)
     (takes (session t (take filled bytes)) input)
 
 -- the answer and the session alone
@@ -94,7 +101,10 @@ roomToFinish count = longestLine * (count + 1)
 abbrev pub finishTests : List ℕ → List ℕ → ℕ → ℕ → List Test
 finishTests areas pages count room = badTables areas pages count ∷ refuse 6 (ltb room (roomToFinish count)) ∷ []
 
+unfoldable pub finishAnswer : List ℕ → List ℕ → ℕ → ℕ → ℕ
+finishAnswer areas pages count room = answer (finishTests areas pages count room)
+
 -- what is said at the end, with so many bytes held
 unfoldable pub finishRule : List ℕ → List ℕ → ℕ → ℕ → ℕ → Reply (List ℕ)
 finishRule areas pages count filled room =
-    replyBy [] (answer (finishTests areas pages count room)) (cutLine filled ++ listing (rows areas count))
+    replyBy [] (finishAnswer areas pages count room) (cutLine filled ++ listing (rows areas count))
