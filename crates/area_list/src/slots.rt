@@ -21,7 +21,7 @@ pub struct Parts {
 }
 
 // The word that stands for a backend.
-fn word_of(backend: Backend) -> u64
+pub fn word_of(backend: Backend) -> u64
     ensures { λ r. ⌜ r ≡ wordOf backend ⌝ }
 {
     match backend {
