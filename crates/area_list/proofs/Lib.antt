@@ -1,4 +1,5 @@
 pub mod Goodness
+pub mod Items
 pub mod Meets
 pub mod Ordered
 pub mod Positions

@@ -1,4 +1,5 @@
 pub mod Good
+pub mod Item
 pub mod Layout
 pub mod Meet
 pub mod Position

@@ -12,6 +12,7 @@ ghost use lib.ListN.{length, getD};
 ghost use Rattle.area.specs.Area.{nothing};
 ghost use Rattle.area_list.specs.Layout.{wordsPerArea, capacityOf, rowAt, areaOf, legalWord, backendOf, LegalRow, rows};
 ghost use Rattle.area_list.specs.Good.{goodRow, goodTables};
+ghost use Rattle.area_list.specs.Item.{itemAt};
 ghost use Rattle.area_list.specs.Position.{SortedRows, Rising, Boundary, firstWhere, endsPast, startsFrom, contains};
 ghost use Rattle.area_list.specs.Meet.{sharesAny};
 
@@ -149,6 +150,33 @@ pub fn area_at(areas: &[u64], count: usize, slot: usize) -> Area
     ensures { λ r. ⌜ r ≡ getD (rows (now (areas .entry)) count) slot nothing ⌝ }
 {
     row_at(areas, slot).area()
+}
+
+// What a slot has.
+pub enum Item {
+    Some(Area),
+    None,
+}
+
+// The area at a slot, if there is one. Whoever asks need not know that the tables are good: it looks at this slot's words alone.
+pub fn item_at(areas: &[u64], count: usize, slot: usize) -> Item
+    ensures { λ r. ⌜ r ≡ itemAt (now (areas .entry)) count slot ⌝ }
+{
+    if count <= slot {
+        return Item::None;
+    }
+    if capacity(areas.len()) <= slot {
+        return Item::None;
+    }
+    let row = row_at(areas, slot);
+    if (FLAGS as u64) < row.flags {
+        return Item::None;
+    }
+    if !legal_word(row.backend) {
+        return Item::None;
+    }
+    let area = row.area();
+    Item::Some(area)
 }
 
 // The first slot whose word in a rising column is above a value, or count.
