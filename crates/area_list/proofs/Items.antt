@@ -1,7 +1,7 @@
 -- Laws of what a slot has: when it is an area, and that in good tables it is one exactly below the count. Assumes nothing.
 use Prim.Native.Nat.{ℕ, _*_, _+_, _≤_, _<_}
-use mathlib.Core.Path.{_≡_, _∙_}
-use mathlib.Core.Bool.{true}
+use mathlib.Core.Path.{_≡_, refl, _∙_}
+use mathlib.Core.Bool.{Bool, true, false, cond}
 use mathlib.Core.List.{List}
 use native.Mathlib.Omega.{arith}
 use lib.ListN.{length, getD}
@@ -9,6 +9,7 @@ use borrow.Author.Tests.{lt-ltb, ltb-true, le-leb, leb-true}
 use Rattle.lists.specs.Every.{every}
 use Rattle.lists.proofs.Every.{every-at, refuted}
 use Rattle.area.specs.Area.{nothing}
+use Rattle.area.specs.declared.Area.{Area}
 use Rattle.page_table.specs.Limits.{maxFlags}
 use Rattle.area_list.specs.Layout.{wordsPerArea, capacityOf, LegalRow, rowAt, areaOf, rows}
 use Rattle.area_list.specs.Item.{slotTests, itemAt}
@@ -16,6 +17,10 @@ use Rattle.area_list.specs.declared.Row.{Row}
 use Rattle.area_list.specs.declared.Item.the-variants.{Some, None}
 use Rattle.area_list.proofs.Goodness.{GoodTables}
 use Rattle.area_list.proofs.Rows.{rows-at}
+
+chosen : (b : Bool) (x a : Area) → cond b (Some x) None ≡ Some a → b ≡ true
+chosen true x a e = refl
+chosen false x a e = cc
 
 pub record HasArea (ws : List ℕ) (count slot : ℕ) : Type 0 where
   pub below : slot < count
@@ -38,6 +43,11 @@ module _ (ws : List ℕ) (count slot : ℕ) where
           word-legal = every-at (slotTests ws count slot) 3 e;
         };
       }
+
+  -- where an item is an area, there is one
+  pub some-has : (a : Area) → itemAt ws count slot ≡ Some a → HasArea ws count slot
+  unfolding itemAt
+  some-has a e = has-area (chosen (every (slotTests ws count slot)) (getD (rows ws count) slot nothing) a e)
 
   pub item-none : (HasArea ws count slot → ⊥) → itemAt ws count slot ≡ None
   unfolding itemAt

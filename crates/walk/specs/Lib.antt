@@ -1,0 +1,2 @@
+pub mod Mapped
+pub mod Way

@@ -1,0 +1,33 @@
+-- The number of pages under areas, by a walk. Laws: `proofs/Sum.antt`. Assumes nothing.
+use Prim.Native.Nat.{ℕ, _+_, _-_}
+use mathlib.Core.Bool.{Bool, true, false}
+use mathlib.Core.List.{List, [], _∷_}
+use Rattle.area.specs.Answer.{number, Reply, reply, replyBy}
+use Rattle.area.specs.Area.{firstPage, endPage}
+use Rattle.area.specs.declared.Area.{Area}
+use Rattle.area_list.specs.Layout.{rows}
+use Rattle.area_list.specs.declared.Item.{Item}
+use Rattle.area_list.specs.declared.Item.the-variants.{Some, None}
+use Rattle.set.specs.Tests.{tablesAnswer}
+use Rattle.walk.specs.declared.Mapped.{Mapped}
+
+abbrev pub isNone : Item → Bool
+isNone (Some area) = false
+isNone None = true
+
+abbrev pub pagesOf : Area → ℕ
+pagesOf a = endPage a - firstPage a
+
+abbrev pub pagesIn : Item → ℕ
+pagesIn (Some area) = pagesOf area
+pagesIn None = 0
+
+unfoldable pub pagesUnder : List Area → ℕ
+pagesUnder [] = 0
+pagesUnder (a ∷ rest) = pagesOf a + pagesUnder rest
+
+abbrev pub mappedOutcome : Mapped → Reply ℕ
+mappedOutcome r = reply (number (r .answer)) (r .pages)
+
+unfoldable pub mappedRule : List ℕ → List ℕ → ℕ → Reply ℕ
+mappedRule areas pages count = replyBy 0 (tablesAnswer areas pages count) (pagesUnder (rows areas count))

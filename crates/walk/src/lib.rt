@@ -1,0 +1,121 @@
+// Every area in order, read where the caller's area table lies. A `Walk` holds that slice and a slot. What a slot has is the
+// covered `item_at`'s to say, so the functions over the struct, each proved by hand, stay thin. `mapped_pages` goes through a walk
+// and has plain parameters: whoever calls it needs no proof by hand.
+use area::Answer;
+use area_list::Item;
+use area_list::item_at;
+use page_table::PAGE;
+use set::len;
+ghost use mathlib.Core.Path.{_≡_};
+ghost use Rattle.walk.specs.Way.{walkOutcome, walkRule, stepAt, yielded, moved};
+ghost use Rattle.walk.specs.Mapped.{isNone, pagesIn, mappedOutcome, mappedRule};
+
+// A walk: the caller's words as they lie, how many areas it goes through, the slot it is at, and what len answered. A refused
+// one goes through none.
+pub struct Walk<'a> {
+    pub areas: &'a [u64],
+    pub count: usize,
+    pub slot: usize,
+    pub answer: Answer,
+}
+
+// What a slot has, and the slot after it.
+struct Step {
+    item: Item,
+    slot: usize,
+}
+
+// Where there is no area, the walk stays where it is: so it ends once and for all.
+fn step_at(areas: &[u64], count: usize, slot: usize) -> Step
+    ensures { λ r. ⌜ r ≡ stepAt (now (areas .entry)) count slot ⌝ }
+{
+    let item = item_at(areas, count, slot);
+    match item {
+        Item::Some(_) => Step {
+            item,
+            slot: slot + 1,
+        },
+        Item::None => Step { item, slot },
+    }
+}
+
+impl<'a> Walk<'a> {
+    // A walk from the first area to the last. The tables are tested once, here.
+    pub fn new(areas: &'a [u64], pages: &[u32], count: usize) -> Walk<'a>
+        ensures { λ r. ⌜ walkOutcome r ≡ walkRule (areas .entry) (now (pages .entry)) count ⌝ }
+    {
+        let counted = len(areas, pages, count);
+        Walk {
+            areas,
+            count: counted.len,
+            slot: 0,
+            answer: counted.answer,
+        }
+    }
+
+    // What len answers for the same tables.
+    pub fn answer(self) -> Answer
+        ensures { λ r. ⌜ r ≡ self .entry .answer ⌝ }
+    {
+        self.answer
+    }
+
+    // The next area, and the walk moves on; or none.
+    pub fn next(&mut self) -> Item
+        ensures { λ r. ⌜ (r ≡ yielded (now (self .entry))) × (now (self .exit) ≡ moved (now (self .entry))) ⌝ }
+    {
+        let step = step_at(self.areas, self.count, self.slot);
+        self.slot = step.slot;
+        step.item
+    }
+}
+
+// A number of pages, 0 in a refusal.
+pub struct Mapped {
+    pub answer: Answer,
+    pub pages: usize,
+}
+
+fn is_none(item: Item) -> bool
+    ensures { λ r. ⌜ r ≡ isNone item ⌝ }
+{
+    match item {
+        Item::Some(_) => false,
+        Item::None => true,
+    }
+}
+
+fn pages_in(item: Item) -> usize
+    ensures { λ r. ⌜ r ≡ pagesIn item ⌝ }
+{
+    match item {
+        Item::Some(area) => {
+            let first = area.start / PAGE;
+            let end = area.end / PAGE;
+            if end <= first {
+                return 0;
+            }
+            (end - first) as usize
+        }
+        Item::None => 0,
+    }
+}
+
+// The number of pages under areas.
+pub fn mapped_pages(areas: &[u64], pages: &[u32], count: usize) -> Mapped
+    ensures { λ r. ⌜ mappedOutcome r ≡ mappedRule (now (areas .entry)) (now (pages .entry)) count ⌝ }
+{
+    let mut walk = Walk::new(areas, pages, count);
+    let mut sum = 0;
+    loop {
+        let item = walk.next();
+        if is_none(item) {
+            break;
+        }
+        sum += pages_in(item);
+    }
+    Mapped {
+        answer: walk.answer,
+        pages: sum,
+    }
+}
