@@ -52,7 +52,7 @@ use Rattle.set.proofs.len.Symbol as ln-def
 use Rattle.set.proofs.len.Symbol.{name as #set·len}
 use Rattle.set.proofs.len.Met as ln-thm
 use Rattle.walk.specs.declared.Walk.{Walk}
-use Rattle.walk.proofs.Yields.{begun, begun-is}
+use Rattle.walk.proofs.Yields.{walkAt, begun-is}
 use Rattle.walk.proofs.Walk as T
 use Rattle.walk.proofs.Walk.Laws as T′
 use Rattle.walk.proofs.Walk.new.Key.{name as #walk·new}
@@ -110,14 +110,17 @@ module _ {M : Type 1} (𝓤 : URA M) (H : Heap 𝓤) (A : Atoms 𝓤) (W : Given
   len-said r = exE 𝓤 _ (λ ws. snd∗ 𝓤 (sem 𝓤 H A (lasts ln.ended (κ, (κ′, tt)) (a, (p, (c, tt))) ws)) (fact 𝓤 (lenOutcome r ≡ lenRule (now a) (now p) c)))
 
   -- ---- what len said, and the walk made of it
+  abbrev begun : Counted → Walk
+  begun r = walkAt a (r .len) (r .answer) 0
+
   module _ (r : Counted) (fits : r .len < 2 ^ 64) (known : Is N.the-row (r .answer) (EL.val N.the-type N′.the-laws (r .answer) ∷ [])) where
     abbrev made : Val
-    made = LL.val D L (begun a r)
+    made = LL.val D L (begun r)
 
     exits : lenOutcome r ≡ lenRule (now a) (now p) c → ent 𝓤 (⋆ 𝓤 H A (‵ OwnA ∷ ‵ OwnP ∷ (‵ (flft κ q) ⊛ ‵ (flft κ′ q′) ⊛ ‵ ftrue) ∷ [])) (Post made)
     exits e =
         qed W (‵ OwnA ∷ ‵ OwnP ∷ (‵ (flft κ q) ⊛ ‵ (flft κ′ q′) ⊛ ‵ ftrue) ∷ []) ∵
-        suffices ! _ (ends-at 𝓤 H A f.ended stayed (f.clauses 𝓤 H A mem run) W (((κ, (κ′, tt)), (q, (q′, tt)), tt, (a, (p, (c, tt))), at), tt) made (begun a r) (tt, (tt, (tt, tt))) (tt, (tt, (tt, tt)))) $ says ! (begun-is a (now p) c r e) $
+        suffices ! _ (ends-at 𝓤 H A f.ended stayed (f.clauses 𝓤 H A mem run) W (((κ, (κ′, tt)), (q, (q′, tt)), tt, (a, (p, (c, tt))), at), tt) made (begun r) (tt, (tt, (tt, tt))) (tt, (tt, (tt, tt)))) $ says ! (begun-is a (now p) c r e) $
         move ! (2 ∷ []) $ frame ! $ use1 W (‵ OwnA ⊛ ‵ OwnA) (shr-slice-copy 𝓤 H A W (named 0) κ u64 .twice a (av ∷ [])) $ split ! $
         nothing ! $ owned ! usize (Is usize) (uint-makes 𝓤 H A W w64) c _ (refl, gc) $ fjoin ! $ move ! (3 ∷ 0 ∷ []) $ fjoin ! $ move ! (1 ∷ 0 ∷ []) $ fjoin ! $ frame ! $
         -- [what areas owns]
@@ -144,7 +147,7 @@ module _ {M : Type 1} (𝓤 : URA M) (H : Heap 𝓤) (A : Atoms 𝓤) (W : Given
         land ! (from ! (stop !)) (init ! 5 refl (LL.lawful S.the-type S′.the-laws 𝓤 H A W .typed r _ is .0)) $
         rewrite ! 5 (λ (z : Val). ‵ (fat fullShare S′.mir l₄ 0 z)) (ap only (LL.tells S.the-type S′.the-laws r (u ∷ []) is)) refl $
         assigns ! (agg ! (and-then ! (load ! (from ! (stop !)) (look ! 11 refl)) (and-then ! (load ! (from ! (fld ! refl (stop !))) (look-in ! 5 (sub ! 1 refl (whole !)))) (and-then ! (lit ! tt) (and-then ! (load ! (from ! (fld ! refl (stop !))) (look-in ! 5 (sub ! 0 refl (whole !)))) (no-more !))))))
-        (from ! (stop !)) (init ! 13 refl (LL.lawful D L 𝓤 H A W .typed (begun a r) _ (LL.owes D L (begun a r) (isa, ((refl, fits r u is), ((refl, lit< tt), (answer-is r u is, tt))))) .0)) $
+        (from ! (stop !)) (init ! 13 refl (LL.lawful D L 𝓤 H A W .typed (begun r) _ (LL.owes D L (begun r) (isa, ((refl, fits r u is), ((refl, lit< tt), (answer-is r u is, tt))))) .0)) $
         returns ! (look ! 13 refl) $ forget ! 5 refl $ forget ! 7 refl $ forget ! 9 refl $ forget ! 11 refl $ forget ! 13 refl $
         move ! (13 ∷ 14 ∷ []) $ free1 ! $ move ! (11 ∷ 12 ∷ []) $ free1 ! $ move ! (9 ∷ 10 ∷ []) $ free1 ! $ move ! (7 ∷ 8 ∷ []) $ free1 ! $ move ! (5 ∷ 6 ∷ []) $ free1 ! $ free0 ! $
         keep ! (4 ∷ 2 ∷ 1 ∷ []) $ by ! (exits r (fits r u is) (answer-is r u is) e))))))))))
