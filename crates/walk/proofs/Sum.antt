@@ -1,9 +1,9 @@
 -- Laws of the number of pages under areas: it is at most the number of pages, no second outcome has it, and how it adds up slot by
 -- slot. Assumes nothing.
 use Prim.Native.Nat.{ℕ, _+_, _-_, _/_, _≤_, _<_}
-use mathlib.Core.Path.{_≡_, refl, sym, ap, _∙_}
-use mathlib.Core.Bool.{Bool, true, false, not}
-use mathlib.Core.List.{List, []}
+use mathlib.Core.Path.{_≡_}
+use mathlib.Core.Bool.{not}
+use mathlib.Core.List.{List}
 use native.Mathlib.Omega.{arith}
 use native.Mathlib.Decide.{decLt}
 use native.Mathlib.Numerals.{add-one}
@@ -17,7 +17,7 @@ use Rattle.area.specs.Area.{nothing}
 use Rattle.area.specs.declared.Area.{Area}
 use Rattle.area.proofs.Answers.{reply-zero, reply-suc, one-outcome}
 use Rattle.area_list.specs.Layout.{rows}
-use Rattle.area_list.specs.Good.{spaceOf, goodTables}
+use Rattle.area_list.specs.Good.{goodTables}
 use Rattle.area_list.specs.Item.{itemAt}
 use Rattle.area_list.proofs.Ordered.{Ordered, none-left, one-more}
 use Rattle.area_list.proofs.Goodness.{tables-are}
@@ -25,7 +25,7 @@ use Rattle.area_list.proofs.Items.{past-count}
 use Rattle.area_list.proofs.Rows.{length-rows}
 use Rattle.set.specs.Question.{lenRule}
 use Rattle.set.proofs.Answering.{tables-bad, tables-good}
-use Rattle.walk.specs.Way.{after}
+use Rattle.walk.specs.Walking.{after}
 use Rattle.walk.specs.Mapped.{isNone, pagesIn, pagesUnder, mappedOutcome, mappedRule}
 use Rattle.walk.specs.declared.Mapped.{Mapped}
 use Rattle.walk.proofs.Yields.{Full, len-good, len-bad}

@@ -3,7 +3,7 @@
 use Prim.Native.Nat.{ℕ, zero, suc, _+_, _≤_, _<_}
 use mathlib.Core.Path.{_≡_, refl, sym, ap, _∙_}
 use mathlib.Core.Bool.{true, false}
-use mathlib.Core.List.{List, [], _∷_}
+use mathlib.Core.List.{List, []}
 use native.Mathlib.Omega.{arith}
 use native.Mathlib.Decide.{decLt}
 use native.Mathlib.Numerals.{add-one}
@@ -18,14 +18,15 @@ use Rattle.area.proofs.Answers.{reply-zero, reply-suc, one-outcome}
 use Rattle.area_list.specs.Layout.{rows}
 use Rattle.area_list.specs.Good.{goodTables}
 use Rattle.area_list.specs.Item.{itemAt}
-use Rattle.area_list.specs.declared.Item.the-variants.{Some}
+use Rattle.area_list.specs.declared.Item.{Item}
+use Rattle.area_list.specs.declared.Item.the-variants.{Some, None}
 use Rattle.area_list.proofs.Goodness.{tables-are}
 use Rattle.area_list.proofs.Items.{good-item, past-count}
 use Rattle.area_list.proofs.Rows.{length-rows}
 use Rattle.set.specs.Question.{lenOutcome, lenRule}
 use Rattle.set.specs.declared.Counted.{Counted}
 use Rattle.set.proofs.Answering.{tables-bad, tables-good}
-use Rattle.walk.specs.Way.{place, walkOutcome, walkRule, yields}
+use Rattle.walk.specs.Walking.{place, walkOutcome, walkRule, after, yielded, moved, yields}
 use Rattle.walk.specs.declared.Walk.{Walk}
 
 -- a walk, by its parts
@@ -69,6 +70,10 @@ walk-unique w v e =
     λ i. walkAt (u .values i .areas) (u .values i .count) (u .answers i) (u .values i .slot)
 
 -- ---- what it yields
+
+-- any walk, also one that nobody made of tables: once it yields none it stays as it is, and so yields none again
+pub stays-ended : (w : Walk) → yielded w ≡ None → moved w ≡ w
+stays-ended w e = ap (λ (i : Item). walkAt (w .areas) (w .count) (w .answer) (after i (w .slot))) e
 
 -- each slot below n has its area
 abbrev pub Full : List ℕ → ℕ → Type 0

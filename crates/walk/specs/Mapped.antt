@@ -1,4 +1,5 @@
--- The number of pages under areas, by a walk. Laws: `proofs/Sum.antt`. Assumes nothing.
+-- The number of pages under areas, found by going through a walk. 01 has no such call: it stands for all that a caller does with a
+-- walk. Laws: `proofs/Sum.antt`. Assumes nothing.
 use Prim.Native.Nat.{ℕ, _+_, _-_}
 use mathlib.Core.Bool.{Bool, true, false}
 use mathlib.Core.List.{List, [], _∷_}
@@ -15,6 +16,7 @@ abbrev pub isNone : Item → Bool
 isNone (Some area) = false
 isNone None = true
 
+-- the pages from an area's first up to its last
 abbrev pub pagesOf : Area → ℕ
 pagesOf a = endPage a - firstPage a
 
@@ -25,6 +27,8 @@ pagesIn None = 0
 unfoldable pub pagesUnder : List Area → ℕ
 pagesUnder [] = 0
 pagesUnder (a ∷ rest) = pagesOf a + pagesUnder rest
+
+-- ---- an answer as every other: 0 in a refusal
 
 abbrev pub mappedOutcome : Mapped → Reply ℕ
 mappedOutcome r = reply (number (r .answer)) (r .pages)

@@ -7,7 +7,8 @@ use area_list::item_at;
 use page_table::PAGE;
 use set::len;
 ghost use mathlib.Core.Path.{_≡_};
-ghost use Rattle.walk.specs.Way.{walkOutcome, walkRule, stepAt, yielded, moved};
+ghost use Rattle.area.specs.Answer.{number};
+ghost use Rattle.walk.specs.Walking.{walkOutcome, walkRule, stepAt, yielded, moved};
 ghost use Rattle.walk.specs.Mapped.{isNone, pagesIn, mappedOutcome, mappedRule};
 
 // A walk: the caller's words as they lie, how many areas it goes through, the slot it is at, and what len answered. A refused
@@ -55,7 +56,7 @@ impl<'a> Walk<'a> {
 
     // What len answers for the same tables.
     pub fn answer(self) -> Answer
-        ensures { λ r. ⌜ r ≡ self .entry .answer ⌝ }
+        ensures { λ r. ⌜ number r ≡ number (self .entry .answer) ⌝ }
     {
         self.answer
     }

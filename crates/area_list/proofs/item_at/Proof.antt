@@ -2,8 +2,8 @@
 use native.Mathlib.Omega.{arith}
 use borrow.Author.Needs.{needs}
 use Prim.Native.Nat.{_<_}
-use mathlib.Core.Path.{_≡_, _∙_, sym, ap}
-use mathlib.Core.Bool.{true, true≢false}
+use mathlib.Core.Path.{_∙_, sym, ap}
+use mathlib.Core.Bool.{true≢false}
 use lib.ListN.{length}
 use borrow.Author.Tests.{not-true, not-false}
 use Rattle.area_list.specs.Layout.{capacityOf, LegalRow}

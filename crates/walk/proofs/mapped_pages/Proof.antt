@@ -2,7 +2,7 @@
 -- local to `next`, and calls `is_none` and `pages_in`; all that the proof knows of these and of `new` is that each meets its contract.
 -- The loop's variant carries the slot and the sum: the walk is the one at that slot, and what is left of the pages makes up the rest.
 -- Assumes nothing.
-use mathlib.Core.Path.{_≡_, refl, sym, _∙_, ap, subst}
+use mathlib.Core.Path.{_≡_, refl, _∙_, ap, subst}
 use Prim.Native.Nat.{ℕ, _+_, _-_, _<_, _^_}
 use native.Mathlib.Omega.{arith}
 use mathlib.Core.Bool.{Bool, not}
@@ -35,7 +35,7 @@ use denote.Plain.{Boolean, uint-vals, uint-tells, uint-makes, uint-lawful, bool-
 use denote.Builtin.{u32, u64, usize}
 use denote.Ref.{RefT, NamedLft, MutRef, now}
 use denote.Slice.{sliceTy, sliceVal, ShrSlice, slice-vals, shr-slice-tells, shr-slice-lawful, shr-slice-copy}
-use denote.Signature.{plain, namedLft}
+use denote.Signature.{plain}
 use denote.Steps.{only, owned, peeks, facts, heard, nothing}
 use denote.Enum.Laws as EL
 use denote.Struct.Declared.{Declared}
@@ -49,7 +49,7 @@ use denote.Triple.Spec.{Meets, tripleOf}
 use denote.Triple.Table.{entered, cited}
 use denote.Triple.Walked.{says, Stays, stay-none, stay-none-slice, walkOf, goes-none, goes-none-slice, Walks, ends-at, walked, walk-meets}
 use denote.Exit.{yes}
-use Rattle.area.specs.Answer.{number, Reply, reply}
+use Rattle.area.specs.Answer.{number, reply}
 use Rattle.area.specs.declared.Answer.{Answer}
 use Rattle.area.proofs.Answer as N
 use Rattle.area.proofs.Answer.Laws as N′
@@ -59,7 +59,7 @@ use Rattle.area_list.specs.declared.Item as items
 use Rattle.area_list.proofs.Item as I
 use Rattle.area_list.proofs.Item.Laws as I′
 use Rattle.set.specs.Question.{lenRule}
-use Rattle.walk.specs.Way.{walkOutcome, walkRule, after, yielded, moved}
+use Rattle.walk.specs.Walking.{walkOutcome, walkRule, after, yielded, moved}
 use Rattle.walk.specs.Mapped.{isNone, pagesIn, pagesUnder, mappedOutcome, mappedRule}
 use Rattle.walk.specs.declared.Walk.{Walk}
 use Rattle.walk.specs.declared.Mapped.{Mapped}

@@ -9,8 +9,7 @@ use Rattle.area_list.specs.Item.{itemAt}
 use Rattle.area_list.specs.declared.Item.{Item}
 use Rattle.area_list.specs.declared.Item.the-variants.{Some, None}
 use Rattle.area_list.proofs.Items.{some-has}
-use Rattle.walk.specs.Way.{stepAt}
-use Rattle.walk.specs.declared.Step.{Step}
+use Rattle.walk.specs.Walking.{stepAt}
 use Rattle.walk.proofs.step_at.Statement.{statement}
 use Rattle.walk.proofs.step_at.Tie as tie
 

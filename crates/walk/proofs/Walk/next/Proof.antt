@@ -48,7 +48,7 @@ use denote.Triple.Walked.{says, Stays, stay-ref, walkOf, goes-ref, Walks, ends-a
 use Rattle.area_list.specs.declared.Item.{Item}
 use Rattle.area_list.proofs.Item as I
 use Rattle.area_list.proofs.Item.Laws as I′
-use Rattle.walk.specs.Way.{stepAt}
+use Rattle.walk.specs.Walking.{stepAt}
 use Rattle.walk.specs.declared.Walk.{Walk}
 use Rattle.walk.specs.declared.Step.{Step}
 use Rattle.walk.proofs.Walk as T

@@ -31,9 +31,9 @@ unfoldable pub walkRule : RefT (List ℕ) → List ℕ → ℕ → Reply Place
 walkRule areas pages count =
     reply (lenRule (now areas) pages count .answer) (place areas (lenRule (now areas) pages count .value) 0)
 
--- ---- it is stepped: "every area in order"
+-- ---- it is stepped
 
--- the slot after one that had an area; it stays where there is none
+-- one slot further after an area; where there is none it stays, so a walk ends once and for all
 abbrev pub after : Item → ℕ → ℕ
 after (Some area) slot = slot + 1
 after None slot = slot
@@ -49,10 +49,10 @@ moved w = record { areas = w .areas; count = w .count; slot = after (yielded w) 
 
 -- ---- all that it yields in so many steps, up to the first that yields none
 
-abbrev pub then : Item → List Area → List Area
-then (Some area) rest = area ∷ rest
-then None rest = []
+abbrev pub followedBy : Item → List Area → List Area
+followedBy (Some area) rest = area ∷ rest
+followedBy None rest = []
 
 unfoldable pub yields : ℕ → Walk → List Area
 yields zero w = []
-yields (suc n) w = then (yielded w) (yields n (moved w))
+yields (suc k) w = followedBy (yielded w) (yields k (moved w))
