@@ -1,6 +1,6 @@
-// Every area in order, read where the caller's area table lies. A `Walk` holds that slice and a slot. What a slot has is the
-// covered `item_at`'s to say, so the functions over the struct, each proved by hand, stay thin. `mapped_pages` goes through a walk
-// and has plain parameters: whoever calls it needs no proof by hand.
+// Every area in order, read where the caller's area table lies. A `Walk` holds that slice and a slot; each function over the struct
+// has a proof by hand and is thin, since `len` tests the tables and `step_at`, on a plain slice and numbers, reads a slot.
+// `mapped_pages` goes through a walk and has plain parameters: whoever calls it needs no proof by hand.
 use area::Answer;
 use area_list::Item;
 use area_list::item_at;
