@@ -1,34 +1,17 @@
-//! Our side: the calls of the static library that is made from the proved code.
+//! Our side: the calls of the static library that is made from the proved code, as the declarations
+//! for its users have them.
 
 use crate::calls::{Answer, Call, Mapping, Protection, Search};
 use crate::tables::Tables;
+use declared::*;
+
+#[path = "../../include/memory_set.rs"]
+#[rustfmt::skip]
+mod declared;
 
 /// What each place for a result holds before a call. A call has to write all of them, refused or
 /// not, so no answer may still have it.
 const UNWRITTEN: u64 = 0x5a5a_5a5a_5a5a_5a5a;
-
-#[rustfmt::skip]
-unsafe extern "C" {
-    fn memory_set_len(areas: *const u64, areas_len: usize, pages: *const u32, pages_len: usize, count: usize,
-        len: *mut u64) -> u32;
-    fn memory_set_is_empty(areas: *const u64, areas_len: usize, pages: *const u32, pages_len: usize, count: usize,
-        yes: *mut u64) -> u32;
-    fn memory_set_overlaps(areas: *const u64, areas_len: usize, pages: *const u32, pages_len: usize, count: usize,
-        start: u64, size: u64, yes: *mut u64) -> u32;
-    fn memory_set_find(areas: *const u64, areas_len: usize, pages: *const u32, pages_len: usize, count: usize,
-        address: u64, start: *mut u64, end: *mut u64, flags: *mut u64, backend: *mut u64) -> u32;
-    fn memory_set_entries(areas: *const u64, areas_len: usize, pages: *const u32, pages_len: usize, count: usize,
-        address: u64, first: *mut u64, number: *mut u64) -> u32;
-    fn memory_set_find_free_area(areas: *const u64, areas_len: usize, pages: *const u32, pages_len: usize, count: usize,
-        hint: u64, size: u64, limit_start: u64, limit_end: u64, align: u64, at: *mut u64) -> u32;
-    fn memory_set_map(areas: *mut u64, areas_len: usize, pages: *mut u32, pages_len: usize, count: *mut usize,
-        start: u64, size: u64, flags: u32, linear: u32, delta: u32, replace: u32) -> u32;
-    fn memory_set_unmap(areas: *mut u64, areas_len: usize, pages: *mut u32, pages_len: usize, count: *mut usize,
-        start: u64, size: u64) -> u32;
-    fn memory_set_clear(areas: *mut u64, areas_len: usize, pages: *mut u32, pages_len: usize, count: *mut usize) -> u32;
-    fn memory_set_protect(areas: *mut u64, areas_len: usize, pages: *mut u32, pages_len: usize, count: *mut usize,
-        start: u64, size: u64, set: u32, clear: u32) -> u32;
-}
 
 /// Lends the tables to a question.
 // SAFETY: pointers and lengths are those of the tables' own vectors, which are held over the call; a

@@ -26,14 +26,13 @@ struct Pages {
 /// What a call answers on tables, and the tables afterwards.
 pub fn perform(before: &Tables, call: &Call) -> (Answer, Tables) {
     let mut after = before.clone();
-    let answer = match answer(&mut after, call) {
-        Ok(answer) => answer,
-        Err(number) => Answer::refused(number),
-    };
-    (answer, after)
+    match answer(&mut after, call) {
+        Ok(answer) => (answer, after),
+        Err(number) => (Answer::refused(number), before.clone()),
+    }
 }
 
-/// The tests in document 01's order, then the call's work. Only an accepted change writes tables.
+/// The tests in document 01's order, then the call's work; the number of the first test that refuses.
 fn answer(tables: &mut Tables, call: &Call) -> Result<Answer, u32> {
     refuse(!good(tables), number::BAD_TABLES)?;
     match *call {

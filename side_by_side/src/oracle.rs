@@ -12,6 +12,8 @@ use std::fs;
 /// The tables of the record program.
 const PAGES: usize = 4096;
 const REQUESTS: usize = 2_000;
+/// Random calls hardly ever clear, so one request is made to.
+const CLEAR_AT: usize = 600;
 const SEED: u64 = 41;
 
 type Record = [u8; 32];
@@ -34,8 +36,9 @@ fn sample() -> (Vec<Record>, String) {
     let mut records = Vec::new();
     let mut lines = String::new();
     while records.len() < REQUESTS {
-        let mut call = calls.next(&tables);
+        let mut call = if records.len() == CLEAR_AT { Call::Clear } else { calls.next(&tables) };
         if let Call::FindFreeArea(search) = &mut call {
+            // A request has no field for it.
             search.limit_start = 0;
         }
         let Some(record) = record(&call) else {
