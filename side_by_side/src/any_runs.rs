@@ -17,15 +17,20 @@ pub struct AnyRun {
 }
 
 pub const RUNS: [AnyRun; 4] = [
-    AnyRun { name: "good tables for 0 to 3 areas, any arguments", tables: small, rounds: 100_000, calls: 30 },
+    AnyRun { name: "any arguments, good tables, capacity 0 to 3", tables: small, rounds: 100_000, calls: 30 },
     AnyRun {
-        name: "good tables for 256 areas, full or nearly so, any arguments",
+        name: "any arguments, good tables, capacity 256, full or nearly so",
         tables: full,
         rounds: 1_000,
         calls: 200,
     },
-    AnyRun { name: "65,535 to 65,537 pages, any arguments", tables: large, rounds: 200, calls: 40 },
-    AnyRun { name: "tables of random words, any arguments", tables: wild, rounds: 200_000, calls: 5 },
+    AnyRun {
+        name: "any arguments, good tables but for their size, P = 65,535 to 65,537",
+        tables: large,
+        rounds: 200,
+        calls: 40,
+    },
+    AnyRun { name: "any arguments, tables of random words", tables: wild, rounds: 200_000, calls: 5 },
 ];
 
 impl AnyRun {

@@ -33,16 +33,16 @@ pub fn run(seed: u64, times: u64) -> Compared<()> {
 fn shared_ground(seed: u64, times: u64) -> Compared<Tally> {
     let mut all = Tally::default();
     for (pages, length) in [(2, 4), (3, 3), (4, 2)] {
-        let name = format!("crate, all sequences of up to {length} changes in {pages} pages");
+        let name = format!("crate, all sequences of up to {length} changes, P = {pages}");
         all.add(&report(&name, || exhaustive::sequences(pages, length))?);
     }
     for pages in [4, 5] {
-        let name = format!("crate, all states of {pages} pages");
+        let name = format!("crate, all states, P = {pages}");
         all.add(&report(&name, || exhaustive::states(pages))?);
     }
     for extent in EXTENTS {
         let Extent { capacity, pages, .. } = extent;
-        let name = format!("crate, random sequences, {capacity} areas in {pages} pages");
+        let name = format!("crate, random sequences, P = {pages}, capacity {capacity}");
         all.add(&report(&name, || ground_runs::run(seed, times, &extent))?);
     }
     Ok(all)
@@ -52,14 +52,14 @@ fn shared_ground(seed: u64, times: u64) -> Compared<Tally> {
 fn everywhere(seed: u64, times: u64) -> Compared<Tally> {
     let mut all = Tally::default();
     for (pages, capacity) in [(0, 0), (0, 1), (1, 0), (1, 1), (2, 1), (2, 2), (3, 2), (3, 3), (4, 2)] {
-        let name = format!("model, all states of {pages} pages with room for {capacity} areas");
+        let name = format!("model, all states, P = {pages}, capacity {capacity}");
         all.add(&report(&name, || every_call::run(pages, capacity))?);
     }
     for run in &any_runs::RUNS {
         let name = format!("model, random, {}", run.name);
         all.add(&report(&name, || run.run(seed, times))?);
     }
-    let name = "model, random, tables that fail to be good in one way";
+    let name = "model, random, any arguments, tables that fail to be good in one way";
     all.add(&report(name, || any_runs::damaged(seed, times))?);
     Ok(all)
 }
