@@ -19,7 +19,7 @@ ghost use Rattle.area_list.specs.Meet.{sharesAny};
 pub mod slots;
 
 // Words an area takes.
-const WORDS: usize = 4;
+pub const WORDS: usize = 4;
 // Where in an area's words its start and its end lie.
 const START: usize = 0;
 

@@ -6,13 +6,13 @@ use mathlib.Core.List.{List, [], _∷_, _++_, append-assoc, append-nil}
 use native.Mathlib.Numerals.{add-one}
 use native.Mathlib.Omega.{arith}
 use lib.Dec.{eqb, ltb}
-use lib.ListN.{length, take, drop, set, getD, length-set}
+use lib.ListN.{length, take, drop, set, getD, length-set, length-append}
 use lib.Seq.{take-suc-set, take-all, length-take-le, drop-cons, drop-length}
 use borrow.Author.Tests.{lt-ltb, le-ltb, ltb-true, ltb-false, eq-eqb, ne-eqb, eqb-true, eqb-false}
 use Rattle.lists.proofs.Every.{by-test}
 use Rattle.lists.proofs.Over.{over-nothing}
-use Rattle.area.specs.Answer.{answer, Reply, reply, replyBy}
-use Rattle.area.proofs.Answers.{reply-accepted, reply-refused}
+use Rattle.area.specs.Answer.{answer, Reply, reply}
+use Rattle.area.proofs.Answers.{reply-accepted, reply-refused, reply-zero}
 use Rattle.set.specs.Change.{Tables}
 use Rattle.set.specs.Question.{overlapsRule}
 use Rattle.records.specs.Line.{longestLine, lineBytes, Put}
@@ -222,3 +222,32 @@ module _ (t : Tables) (bytes : List ℕ) (filled : ℕ) (input out : List ℕ) (
       let rule : reply n (takes (session t (take filled bytes)) input) ≡ feedRule t bytes filled input (length out) =
       rw e (reply-accepted (heard (session t (take filled bytes)) []) _ (takes (session t (take filled bytes)) input) (sym e ∙ z)) in
       (rw (d .0) (ap settled rule), rw (← rule) (d .1))
+
+-- ---- what is held is part of a record
+
+took-holds : (s : Session) (byte : ℕ) → length (took s byte .session .held) < recordSize
+unfolding took
+took-holds s byte =
+    by-test (ltb (length (s .held) + 1) recordSize)
+    (λ p. rw p (omega (arith, length-append (s .held) (byte ∷ []), ltb-true (length (s .held) + 1) recordSize p)))
+    (λ p. rw p (omega arith))
+
+takes-holds : (s : Session) (input : List ℕ) → length (s .held) < recordSize → length (takes s input .session .held) < recordSize
+unfolding takes
+takes-holds s [] h = h
+takes-holds s (byte ∷ input) h = takes-holds (took s byte .session) input (took-holds s byte)
+
+-- a piece that finds room is accepted, and leaves part of a record again
+module _ (t : Tables) (bytes : List ℕ) (filled : ℕ) (input : List ℕ) (room : ℕ)
+    (long : length bytes ≡ recordSize) (part : filled < recordSize) (fits : roomFor (filled + length input) ≤ room) where
+  fed : reply 0 (takes (session t (take filled bytes)) input) ≡ feedRule t bytes filled input room
+  unfolding feedRule
+  fed =
+      reply-zero (heard (session t (take filled bytes)) []) _ (takes (session t (take filled bytes)) input)
+      (sym (feed-passes (length bytes) filled (length input) room long part fits))
+
+  pub fed-answer : feedRule t bytes filled input room .answer ≡ 0
+  fed-answer = ap (λ (r : Reply Heard). r .answer) (sym fed)
+
+  pub fed-holds : length (feedRule t bytes filled input room .value .session .held) < recordSize
+  fed-holds = rw (← fed) (takes-holds (session t (take filled bytes)) input (omega (arith, length-take-le filled bytes (omega arith))))

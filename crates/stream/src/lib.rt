@@ -1,0 +1,83 @@
+// Standard input to standard output, block by block in constant memory. No contract can say what is read or written, so what
+// matters is in the crate records; here is shown that no block is ever refused.
+use area_list::WORDS;
+use libc::STDIN_FILENO;
+use libc::STDOUT_FILENO;
+use records::feed;
+use records::finish;
+use records::request::RECORD;
+ghost use mathlib.Core.Path.{_≡_};
+ghost use Prim.Native.Nat.{_<_};
+ghost use lib.ListN.{length};
+ghost use Rattle.records.specs.Request.{recordSize};
+
+// Bytes read at once. The lines of so many fit an output block of 65,536 bytes.
+const BLOCK: usize = 32768;
+// The tables of the record program: 256 areas and 4,096 pages.
+const AREA_WORDS: usize = 256 * WORDS;
+
+const PAGES: usize = 4096;
+
+// Where the reading stands: the count, the bytes of a record that are held, whether there may be more input, and whether all
+// of it could be read and answered so far.
+pub struct Progress {
+    pub count: usize,
+    pub filled: usize,
+    pub more: bool,
+    pub whole: bool,
+}
+
+// Reads a block and runs its records. Their lines are written if they are asked for.
+fn take_block(
+    areas: &mut [u64],
+    pages: &mut [u32],
+    bytes: &mut [u8],
+    count: usize,
+    filled: usize,
+    lines: bool,
+) -> Progress
+    requires { ⌜ length (now bytes) ≡ recordSize ⌝ }
+    requires { ⌜ filled < recordSize ⌝ }
+    ensures { λ r. ⌜ r .filled < recordSize ⌝ }
+{
+    let mut input = [0u8; 32768];
+    let got = libc::read(STDIN_FILENO, &mut input);
+    if got < 0 {
+        os::fail(b"standard input");
+        return Progress {
+            count,
+            filled,
+            more: false,
+            whole: false,
+        };
+    }
+    if got == 0 {
+        return Progress {
+            count,
+            filled,
+            more: false,
+            whole: true,
+        };
+    }
+    let n = io::count(got, &input);
+    let mut out = io::large_buffer();
+    let fed = feed(areas, pages, count, bytes, filled, &input[..n], &mut out);
+    let answer = fed.answer;
+    check::expect(answer.accepted());
+    let written = fed.written;
+    let told = tell(lines, &out[..written]);
+    Progress {
+        count: fed.count,
+        filled: fed.filled,
+        more: told,
+        whole: told,
+    }
+}
+
+// Writes the lines if they are asked for; false where that fails.
+fn tell(lines: bool, out: &[u8]) -> bool {
+    if lines {
+        return io::write_all(STDOUT_FILENO, out);
+    }
+    true
+}
