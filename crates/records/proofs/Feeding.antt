@@ -249,5 +249,11 @@ module _ (t : Tables) (bytes : List ℕ) (filled : ℕ) (input : List ℕ) (room
   pub fed-answer : feedRule t bytes filled input room .answer ≡ 0
   fed-answer = ap (λ (r : Reply Heard). r .answer) (sym fed)
 
-  pub fed-holds : length (feedRule t bytes filled input room .value .session .held) < recordSize
+  fed-holds : length (feedRule t bytes filled input room .value .session .held) < recordSize
   fed-holds = rw (← fed) (takes-holds (session t (take filled bytes)) input (omega (arith, length-take-le filled bytes (omega arith))))
+
+pub fed-leaves : (t : Tables) (bytes : List ℕ) (filled : ℕ) (input : List ℕ) (room n : ℕ) (s : Session)
+    → reply n s ≡ settled (feedRule t bytes filled input room)
+    → length bytes ≡ recordSize → filled < recordSize → roomFor (filled + length input) ≤ room → length (s .held) < recordSize
+fed-leaves t bytes filled input room n s e long part fits =
+    rw (ap (λ (r : Reply Session). r .value .held) e) (fed-holds t bytes filled input room long part fits)

@@ -76,7 +76,7 @@ fn wide(x: u32) -> u64
 }
 
 // The number in four bytes, the lowest first.
-fn word32(bytes: &[u8], at: usize) -> u32
+pub fn word32(bytes: &[u8], at: usize) -> u32
     requires { ⌜ at + 4 ≤ length (now bytes) ⌝ }
     ensures { λ r. ⌜ r ≡ numberAt (now (bytes .entry)) at 4 ⌝ }
 {
@@ -86,7 +86,7 @@ fn word32(bytes: &[u8], at: usize) -> u32
 }
 
 // The number in eight bytes, the lowest first.
-fn word64(bytes: &[u8], at: usize) -> u64
+pub fn word64(bytes: &[u8], at: usize) -> u64
     requires { ⌜ at + 8 ≤ length (now bytes) ⌝ }
     ensures { λ r. ⌜ r ≡ numberAt (now (bytes .entry)) at 8 ⌝ }
 {

@@ -40,7 +40,7 @@ fn take_block(
     requires { ⌜ filled < recordSize ⌝ }
     ensures { λ r. ⌜ r .filled < recordSize ⌝ }
 {
-    let mut input = [0u8; 32768];
+    let mut input = [0u8; BLOCK];
     let got = libc::read(STDIN_FILENO, &mut input);
     if got < 0 {
         os::fail(b"standard input");
@@ -80,4 +80,39 @@ fn tell(lines: bool, out: &[u8]) -> bool {
         return io::write_all(STDOUT_FILENO, out);
     }
     true
+}
+
+// Reads requests to the end of standard input. A loop that is proved has to end, and nothing says that input does, so it counts
+// its blocks down from a number that no run uses up.
+pub fn take_input(areas: &mut [u64], pages: &mut [u32], lines: bool) -> Progress
+    ensures { λ r. ⌜ r .filled < recordSize ⌝ }
+{
+    let mut bytes = [0u8; RECORD];
+    let mut at = Progress {
+        count: 0,
+        filled: 0,
+        more: true,
+        whole: true,
+    };
+    let mut blocks = u64::MAX;
+    while 0 < blocks && at.more {
+        at = take_block(areas, pages, &mut bytes, at.count, at.filled, lines);
+        blocks -= 1;
+    }
+    at
+}
+
+// The record program: a line for each request, and at the end the areas. Input that cannot be read and lines that cannot be
+// written end it early, and no areas are listed then.
+pub fn record() {
+    let mut areas = [0u64; AREA_WORDS];
+    let mut pages = [0u32; PAGES];
+    let end = take_input(&mut areas, &mut pages, true);
+    if !end.whole {
+        return;
+    }
+    let mut out = io::large_buffer();
+    let finished = finish(&areas, &pages, end.count, end.filled, &mut out);
+    let written = finished.written;
+    io::write_all(STDOUT_FILENO, &out[..written]);
 }
