@@ -10,8 +10,8 @@ use Rattle.area.specs.Answer.{Reply, reply, replyBy}
 use Rattle.area.specs.Area.{firstPage, endPage, nothing}
 use Rattle.area.specs.declared.Area.{Area}
 use Rattle.area_list.specs.Layout.{wordOf}
-use Rattle.set.specs.Question.{findRule, entriesOf, entriesRule}
-use Rattle.set.proofs.Questions.{find-inside}
+use Rattle.questions.specs.Question.{findRule, entriesOf, entriesRule}
+use Rattle.questions.proofs.Questions.{find-inside}
 use Rattle.exports.specs.Numbers.{inNumbers, yesNumber, areaNumbers, partOf}
 
 -- ---- a refusal

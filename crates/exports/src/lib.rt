@@ -9,7 +9,7 @@ use page_table::PAGE;
 ghost use mathlib.Core.Path.{_≡_};
 ghost use mathlib.Core.List.{[], _∷_};
 ghost use Rattle.area.specs.Answer.{reply};
-ghost use Rattle.set.specs.Question.{lenRule, emptyRule, overlapsRule, findRule, freeAreaRule};
+ghost use Rattle.questions.specs.Question.{lenRule, emptyRule, overlapsRule, findRule, freeAreaRule};
 ghost use Rattle.set.specs.Change.{tables, unmapRule, clearRule, mapRule, protectRule};
 ghost use Rattle.exports.specs.Numbers.{inNumbers, yesNumber, areaNumbers, partOf, backendFrom, isYes};
 
@@ -18,7 +18,7 @@ ghost use Rattle.exports.specs.Numbers.{inNumbers, yesNumber, areaNumber
 pub extern "C" fn memory_set_len(areas: &[u64], pages: &[u32], count: usize, len: &mut u64) -> u32
     ensures { λ r. ⌜ reply r (now (len .exit)) ≡ lenRule (now (areas .entry)) (now (pages .entry)) count ⌝ }
 {
-    let counted = set::len(areas, pages, count);
+    let counted = questions::len(areas, pages, count);
     *len = counted.len as u64;
     let answer = counted.answer;
     answer.number()
@@ -41,7 +41,7 @@ pub extern "C" fn memory_set_is_empty(
 ) -> u32
     ensures { λ r. ⌜ reply r (now (yes .exit)) ≡ inNumbers yesNumber (emptyRule (now (areas .entry)) (now (pages .entry)) count) ⌝ }
 {
-    let empty = set::is_empty(areas, pages, count);
+    let empty = questions::is_empty(areas, pages, count);
     *yes = yes_number(empty.yes);
     let answer = empty.answer;
     answer.number()
@@ -59,7 +59,7 @@ pub extern "C" fn memory_set_overlaps(
 ) -> u32
     ensures { λ r. ⌜ reply r (now (yes .exit)) ≡ inNumbers yesNumber (overlapsRule (now (areas .entry)) (now (pages .entry)) count start size) ⌝ }
 {
-    let overlap = set::overlaps(areas, pages, count, start, size);
+    let overlap = questions::overlaps(areas, pages, count, start, size);
     *yes = yes_number(overlap.yes);
     let answer = overlap.answer;
     answer.number()
@@ -80,7 +80,7 @@ pub extern "C" fn memory_set_find(
     ensures { λ r. ⌜ reply r (now (start .exit) ∷ now (end .exit) ∷ now (flags .exit) ∷ now (backend .exit) ∷ [])
         ≡ inNumbers areaNumbers (findRule (now (areas .entry)) (now (pages .entry)) count address) ⌝ }
 {
-    let found = set::find(areas, pages, count, address);
+    let found = questions::find(areas, pages, count, address);
     let area = found.area;
     *start = area.start;
     *end = area.end;
@@ -105,7 +105,7 @@ pub extern "C" fn memory_set_entries(
     ensures { λ r. ⌜ reply r (now (first .exit) ∷ now (number .exit) ∷ [])
         ≡ inNumbers partOf (findRule (now (areas .entry)) (now (pages .entry)) count address) ⌝ }
 {
-    let holder = set::find(areas, pages, count, address);
+    let holder = questions::find(areas, pages, count, address);
     let area = holder.area;
     let page = area.start / PAGE;
     let end = area.end / PAGE;
@@ -130,7 +130,7 @@ pub extern "C" fn memory_set_find_free_area(
 ) -> u32
     ensures { λ r. ⌜ reply r (now (at .exit)) ≡ freeAreaRule (now (areas .entry)) (now (pages .entry)) count hint size «limit_start» «limit_end» align ⌝ }
 {
-    let placed = set::find_free_area(
+    let placed = questions::find_free_area(
         areas,
         pages,
         count,

@@ -17,9 +17,9 @@ use Rattle.area.specs.declared.Area.{Area}
 use Rattle.area.proofs.Areas.{Good}
 use Rattle.area_list.specs.Layout.{capacityOf}
 use Rattle.area_list.specs.Good.{spaceOf, goodTables}
-use Rattle.set.specs.Tests.{rangeTests}
+use Rattle.questions.specs.Tests.{rangeTests}
 use Rattle.set.specs.Change.{unmapList, unmapTests, mapped, mapList, mapTests, protectList, protectTests}
-use Rattle.set.proofs.Answering.{Refuses, no-test, one-test, Range}
+use Rattle.questions.proofs.Answering.{Refuses, no-test, one-test, Range}
 
 -- the tests of a list by number; past its end none applies
 applied : List Test → ℕ → Bool

@@ -31,7 +31,7 @@ use Rattle.effects.specs.Lists.{cut, insert, protect}
 use Rattle.effects.specs.Pages.{cutPages, mapPages, protectPages}
 use Rattle.effects.proofs.Cutting.{cut-ordered, cut-clear, insert-ordered}
 use Rattle.effects.proofs.Protecting.{AllStorable, protect-ordered, protect-storable}
-use Rattle.set.specs.Tests.{tablesAnswer}
+use Rattle.questions.specs.Tests.{tablesAnswer}
 use Rattle.set.specs.Change.{Tables, listed, unmapTests, unmapRule, clearRule, mapped, mapTests, mapRule, protectTests, protectRule}
 use Rattle.set.specs.Calls.{Call, lenCall, emptyCall, overlapsCall, findCall, entriesCall, searchCall, mapCall, unmapCall, clearCall, protectCall, called}
 use Rattle.set.proofs.Demands.{all-or-nothing}

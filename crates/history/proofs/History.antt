@@ -17,10 +17,10 @@ use Rattle.area_list.specs.Position.{firstWhere, contains}
 use Rattle.area_list.proofs.Ordered.{apart}
 use Rattle.area_list.proofs.Positions.{first}
 use Rattle.area_list.proofs.Rows.{length-rows}
-use Rattle.set.specs.Question.{entriesOf, entriesRule}
+use Rattle.questions.specs.Question.{entriesOf, entriesRule}
 use Rattle.set.specs.Change.{Tables}
 use Rattle.set.specs.Calls.{Call}
-use Rattle.set.proofs.Questions.{found-at, found-none, find-inside, entries-length}
+use Rattle.questions.proofs.Questions.{found-at, found-none, find-inside, entries-length}
 use Rattle.history.specs.Fate.{unmapped, mapped, fate, entryFor}
 use Rattle.history.specs.Follow.{areasOf, findIn, entriesIn, Finds, Follows}
 use Rattle.history.specs.Legal.{legalCalls}

@@ -15,7 +15,7 @@ use Rattle.area.specs.declared.Area.{Area}
 use Rattle.area_list.specs.Good.{goodTables}
 use Rattle.area_list.specs.Layout.{capacityOf, rows}
 use Rattle.area_list.specs.Position.{contains}
-use Rattle.set.specs.Question.{findRule, entriesRule}
+use Rattle.questions.specs.Question.{findRule, entriesRule}
 use Rattle.set.specs.Change.{Tables}
 use Rattle.set.specs.Calls.{Call}
 use Rattle.history.specs.Fate.{unmapped, mapped, fate, entryFor}

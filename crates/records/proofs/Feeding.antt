@@ -14,16 +14,16 @@ use Rattle.lists.proofs.Over.{over-nothing}
 use Rattle.area.specs.Answer.{answer, Reply, reply}
 use Rattle.area.proofs.Answers.{reply-accepted, reply-refused, reply-zero}
 use Rattle.set.specs.Change.{Tables}
-use Rattle.set.specs.Question.{overlapsRule}
-use Rattle.records.specs.Line.{longestLine, lineBytes, Put}
-use Rattle.records.specs.Request.{recordSize, requestOf}
+use Rattle.questions.specs.Question.{overlapsRule}
+use Rattle.lines.specs.Line.{longestLine, lineBytes, Put}
+use Rattle.requests.specs.Request.{recordSize, requestOf}
 use Rattle.records.specs.Step.{Ran, answerLine, runRule, stepRule}
 use Rattle.records.specs.Feed.{Session, session, Heard, heard, wholeRecord, took, nextFilled, after, takes, roomFor, feedAnswer, feedRule, settled}
-use Rattle.records.specs.declared.line.Line.{Line}
-use Rattle.records.specs.declared.line.Line.the-variants as line
-use Rattle.records.specs.declared.request.Request.{Request}
-use Rattle.records.specs.declared.request.Request.the-variants as request
-use Rattle.records.proofs.Lines.{puts, put-then, line-short}
+use Rattle.lines.specs.declared.Line.{Line}
+use Rattle.lines.specs.declared.Line.the-variants as line
+use Rattle.requests.specs.declared.Request.{Request}
+use Rattle.requests.specs.declared.Request.the-variants as request
+use Rattle.lines.proofs.Lines.{puts, put-then, line-short}
 
 pub put-nothing : (out : List ℕ) (at : ℕ) → at ≤ length out → Put out at [] out at
 put-nothing out at h = puts out at [] out at (omega arith) (sym (over-nothing out at)) (omega arith)

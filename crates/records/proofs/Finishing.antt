@@ -15,11 +15,11 @@ use Rattle.area.proofs.Answers.{reply-zero, reply-refused}
 use Rattle.area_list.specs.Good.{goodTables}
 use Rattle.area_list.specs.Layout.{maxAreas, capacityOf, rows}
 use Rattle.area_list.proofs.Rows.{length-rows}
-use Rattle.records.specs.Line.{longestLine, lineBytes, Put}
+use Rattle.lines.specs.Line.{longestLine, lineBytes, Put}
 use Rattle.records.specs.Feed.{cutLine, areaLine, listing, roomToFinish, finishAnswer, finishRule}
-use Rattle.records.specs.declared.line.Line.the-variants as line
+use Rattle.lines.specs.declared.Line.the-variants as line
 use Rattle.records.proofs.Feeding.{put-nothing}
-use Rattle.records.proofs.Lines.{put-then, line-short}
+use Rattle.lines.proofs.Lines.{put-then, line-short}
 
 -- ---- cut
 

@@ -1,4 +1,4 @@
--- Laws of a step: the line of an answer, and a request's outcome from what the set's call promises. Assumes nothing.
+-- Laws of one step: the line of an answer, and a request's outcome from what the set's call promises. Assumes nothing.
 use Prim.Native.Nat.{ℕ, zero, suc}
 use mathlib.Core.Path.{_≡_, refl, ap}
 use mathlib.Core.List.{List}
@@ -7,10 +7,10 @@ use Rattle.area.specs.Answer.{number, Reply}
 use Rattle.area.specs.declared.Answer.{Answer}
 use Rattle.set.specs.Change.{Tables, changedOutcome}
 use Rattle.set.specs.declared.Changed.{Changed}
-use Rattle.records.specs.Line.{noLine, lineBytes}
+use Rattle.lines.specs.Line.{noLine, lineBytes}
 use Rattle.records.specs.Step.{ran, stepOutcome, answerLine, changedRan}
 use Rattle.records.specs.declared.Stepped.{Stepped}
-use Rattle.records.specs.declared.line.Line.the-variants.{Ok, No}
+use Rattle.lines.specs.declared.Line.the-variants.{Ok, No}
 
 pub accepted-line : (n : ℕ) (line : List ℕ) → n ≡ 0 → line ≡ answerLine n line
 unfolding answerLine

@@ -10,11 +10,11 @@ use Rattle.area.specs.Answer.{Test, refuse, answer, Reply, reply, replyBy}
 use Rattle.area.specs.declared.Area.{Area}
 use Rattle.area_list.specs.Layout.{rows}
 use Rattle.set.specs.Change.{Tables}
-use Rattle.set.specs.Tests.{badTables}
-use Rattle.records.specs.Line.{longestLine, lineBytes}
-use Rattle.records.specs.Request.{recordSize}
+use Rattle.questions.specs.Tests.{badTables}
+use Rattle.lines.specs.Line.{longestLine, lineBytes}
+use Rattle.requests.specs.Request.{recordSize}
 use Rattle.records.specs.Step.{Ran, stepRule}
-use Rattle.records.specs.declared.line.Line.the-variants as line
+use Rattle.lines.specs.declared.Line.the-variants as line
 
 -- the tables, and the bytes of a record that is not whole yet
 pub record Session : Type 0 where

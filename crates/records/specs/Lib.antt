@@ -1,4 +1,2 @@
 pub mod Feed
-pub mod Line
-pub mod Request
 pub mod Step

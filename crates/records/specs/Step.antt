@@ -6,13 +6,13 @@ use mathlib.Core.List.{List}
 use Rattle.area.specs.Answer.{Reply}
 use Rattle.area.specs.declared.Area.{Area}
 use Rattle.set.specs.Change.{Tables, tables, mapRule, unmapRule, clearRule, protectRule}
-use Rattle.set.specs.Question.{findRule, overlapsRule, freeAreaRule}
-use Rattle.records.specs.Line.{noLine, lineBytes}
-use Rattle.records.specs.Request.{requestOf}
+use Rattle.questions.specs.Question.{findRule, overlapsRule, freeAreaRule}
+use Rattle.lines.specs.Line.{noLine, lineBytes}
+use Rattle.requests.specs.Request.{requestOf}
 use Rattle.records.specs.declared.Stepped.{Stepped}
-use Rattle.records.specs.declared.line.Line.the-variants as line
-use Rattle.records.specs.declared.request.Request.{Request}
-use Rattle.records.specs.declared.request.Request.the-variants as request
+use Rattle.lines.specs.declared.Line.the-variants as line
+use Rattle.requests.specs.declared.Request.{Request}
+use Rattle.requests.specs.declared.Request.the-variants as request
 
 -- the tables afterwards, and the bytes of the line
 pub record Ran : Type 0 where

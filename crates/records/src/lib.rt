@@ -2,12 +2,12 @@
 use area::Answer;
 use area_list::area_at;
 use area_list::good;
-use line::LONGEST;
-use line::Line;
-use line::put_line;
-use request::RECORD;
-use request::Request;
-use request::decode;
+use lines::LONGEST;
+use lines::Line;
+use lines::put_line;
+use requests::RECORD;
+use requests::Request;
+use requests::decode;
 use set::Changed;
 ghost use mathlib.Core.Path.{_≡_};
 ghost use mathlib.Core.Bool.{cond};
@@ -17,13 +17,10 @@ ghost use Rattle.area.specs.Answer.{number, reply};
 ghost use Rattle.area_list.specs.Layout.{rows};
 ghost use Rattle.area_list.specs.Position.{SortedRows};
 ghost use Rattle.set.specs.Change.{tables};
-ghost use Rattle.records.specs.Line.{longestLine, lineBytes, Put};
-ghost use Rattle.records.specs.Request.{recordSize};
+ghost use Rattle.lines.specs.Line.{longestLine, lineBytes, Put};
+ghost use Rattle.requests.specs.Request.{recordSize};
 ghost use Rattle.records.specs.Step.{stepOutcome, answerLine, runRule, stepRule};
 ghost use Rattle.records.specs.Feed.{session, took, nextFilled, takes, roomFor, feedAnswer, feedRule, settled, cutLine, listing, finishRule};
-
-pub mod line;
-pub mod request;
 
 // What a record did: the count afterwards, and the line.
 pub struct Stepped {
@@ -79,14 +76,14 @@ pub fn run(areas: &mut [u64], pages: &mut [u32], count: usize, request: Request)
         } => changed(set::protect(areas, pages, count, start, size, set, clear)),
         Request::Clear => changed(set::clear(areas, pages, count)),
         Request::Find(address) => {
-            let found = set::find(areas, pages, count, address);
+            let found = questions::find(areas, pages, count, address);
             let area = found.area;
             let answer = found.answer;
             let line = answer_line(answer, Line::In(area.start, area.end));
             Stepped { count, line }
         }
         Request::Overlaps { start, size } => {
-            let told = set::overlaps(areas, pages, count, start, size);
+            let told = questions::overlaps(areas, pages, count, start, size);
             let answer = told.answer;
             let line = answer_line(answer, overlap_line(told.yes));
             Stepped { count, line }
@@ -97,7 +94,16 @@ pub fn run(areas: &mut [u64], pages: &mut [u32], count: usize, request: Request)
             limit,
             align,
         } => {
-            let placed = set::find_free_area(areas, pages, count, hint, size, 0, limit, align);
+            let placed = questions::find_free_area(
+                areas,
+                pages,
+                count,
+                hint,
+                size,
+                0,
+                limit,
+                align,
+            );
             let answer = placed.answer;
             let line = answer_line(answer, Line::At(placed.at));
             Stepped { count, line }

@@ -1,5 +1,3 @@
-pub mod Answering
 pub mod Cases
 pub mod Changing
 pub mod Demands
-pub mod Questions

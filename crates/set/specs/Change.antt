@@ -17,7 +17,7 @@ use Rattle.area_list.specs.Meet.{sharesAny}
 use Rattle.area_list.specs.Store.{store}
 use Rattle.effects.specs.Lists.{cut, insert, protect}
 use Rattle.effects.specs.Pages.{cutPages, mapPages, protectPages}
-use Rattle.set.specs.Tests.{tablesAnswer, rangeTests}
+use Rattle.questions.specs.Tests.{tablesAnswer, rangeTests}
 use Rattle.set.specs.declared.Changed.{Changed}
 
 -- both tables and the count

@@ -5,11 +5,11 @@ use libc::STDIN_FILENO;
 use libc::STDOUT_FILENO;
 use records::feed;
 use records::finish;
-use records::request::RECORD;
+use requests::RECORD;
 ghost use mathlib.Core.Path.{_≡_};
 ghost use Prim.Native.Nat.{_<_};
 ghost use lib.ListN.{length};
-ghost use Rattle.records.specs.Request.{recordSize};
+ghost use Rattle.requests.specs.Request.{recordSize};
 
 // Bytes read at once. The lines of so many fit an output block of 65,536 bytes.
 const BLOCK: usize = 32768;

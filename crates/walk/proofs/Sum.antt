@@ -23,8 +23,8 @@ use Rattle.area_list.proofs.Ordered.{Ordered, none-left, one-more}
 use Rattle.area_list.proofs.Goodness.{tables-are}
 use Rattle.area_list.proofs.Items.{past-count}
 use Rattle.area_list.proofs.Rows.{length-rows}
-use Rattle.set.specs.Question.{lenRule}
-use Rattle.set.proofs.Answering.{tables-bad, tables-good}
+use Rattle.questions.specs.Question.{lenRule}
+use Rattle.questions.proofs.Answering.{tables-bad, tables-good}
 use Rattle.walk.specs.Walking.{after}
 use Rattle.walk.specs.Mapped.{isNone, pagesIn, pagesUnder, mappedOutcome, mappedRule}
 use Rattle.walk.specs.declared.Mapped.{Mapped}

@@ -23,9 +23,9 @@ use Rattle.area_list.specs.declared.Item.the-variants.{Some, None}
 use Rattle.area_list.proofs.Goodness.{tables-are}
 use Rattle.area_list.proofs.Items.{good-item, past-count}
 use Rattle.area_list.proofs.Rows.{length-rows}
-use Rattle.set.specs.Question.{lenOutcome, lenRule}
-use Rattle.set.specs.declared.Counted.{Counted}
-use Rattle.set.proofs.Answering.{tables-bad, tables-good}
+use Rattle.questions.specs.Question.{lenOutcome, lenRule}
+use Rattle.questions.specs.declared.Counted.{Counted}
+use Rattle.questions.proofs.Answering.{tables-bad, tables-good}
 use Rattle.walk.specs.Walking.{place, walkOutcome, walkRule, after, yielded, moved, yields}
 use Rattle.walk.specs.declared.Walk.{Walk}
 

@@ -9,7 +9,7 @@ use Rattle.area.specs.declared.Area.{Area}
 use Rattle.area_list.specs.Layout.{rows}
 use Rattle.area_list.specs.declared.Item.{Item}
 use Rattle.area_list.specs.declared.Item.the-variants.{Some, None}
-use Rattle.set.specs.Tests.{tablesAnswer}
+use Rattle.questions.specs.Tests.{tablesAnswer}
 use Rattle.walk.specs.declared.Mapped.{Mapped}
 
 abbrev pub isNone : Item → Bool

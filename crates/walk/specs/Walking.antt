@@ -8,7 +8,7 @@ use Rattle.area.specs.declared.Area.{Area}
 use Rattle.area_list.specs.Item.{itemAt}
 use Rattle.area_list.specs.declared.Item.{Item}
 use Rattle.area_list.specs.declared.Item.the-variants.{Some, None}
-use Rattle.set.specs.Question.{lenRule}
+use Rattle.questions.specs.Question.{lenRule}
 use Rattle.walk.specs.declared.Walk.{Walk}
 use Rattle.walk.specs.declared.Step.{Step}
 

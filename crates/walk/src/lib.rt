@@ -5,7 +5,7 @@ use area::Answer;
 use area_list::Item;
 use area_list::item_at;
 use page_table::PAGE;
-use set::len;
+use questions::len;
 ghost use mathlib.Core.Path.{_≡_};
 ghost use Rattle.area.specs.Answer.{number};
 ghost use Rattle.walk.specs.Walking.{walkOutcome, walkRule, stepAt, yielded, moved};

@@ -11,7 +11,7 @@ use Rattle.area_list.proofs.Positions.{sorted}
 use Rattle.area_list.specs.Good.{goodTables}
 use Rattle.area_list.specs.Layout.{maxAreas, capacityOf}
 use Rattle.records.proofs.Finishing.{finish-bad, finish-no-room, finish-done, cut-short}
-use Rattle.records.proofs.Lines.{put-then}
+use Rattle.lines.proofs.Lines.{put-then}
 use Rattle.records.proofs.finish.Statement.{statement}
 use Rattle.records.proofs.finish.Tie as tie
 

@@ -4,9 +4,9 @@ use mathlib.Core.Path.{sym, ap, _∙_}
 use borrow.Author.Needs.{needs}
 use Rattle.area.specs.Answer.{number}
 use Rattle.records.proofs.Steps.{changes, asks}
-use Rattle.records.specs.Line.{lineBytes}
+use Rattle.lines.specs.Line.{lineBytes}
 use Rattle.records.specs.Step.{answerLine, foundLine, toldLine, placedLine, runRule}
-use Rattle.records.specs.declared.line.Line.{Line}
+use Rattle.lines.specs.declared.Line.{Line}
 use Rattle.records.proofs.run.Statement.{statement}
 use Rattle.records.proofs.run.Tie as tie
 

@@ -6,7 +6,7 @@ use borrow.Author.Tests.{eqb-true, eqb-false, not-true, not-false}
 use Rattle.area.specs.Answer.{number}
 use Rattle.area_list.proofs.Goodness.{tables-are}
 use Rattle.area_list.proofs.Positions.{sorted}
-use Rattle.set.proofs.Answering.{range-small}
+use Rattle.questions.proofs.Answering.{range-small}
 use Rattle.set.proofs.Changing.{GapFits, gap-fits, MapPassed, map-passed, map-refused, map-no-room, map-done}
 use Rattle.set.proofs.map.Statement.{statement}
 use Rattle.set.proofs.map.Tie as tie

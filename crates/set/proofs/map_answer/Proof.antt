@@ -5,8 +5,8 @@ use mathlib.Core.Path.{_≡_, _∙_, sym}
 use borrow.Author.Tests.{eqb-true, eqb-false, not-true, not-false}
 use Rattle.area_list.proofs.Goodness.{tables-are}
 use Rattle.area_list.proofs.Positions.{sorted}
-use Rattle.set.specs.Tests.{rangeAnswer}
-use Rattle.set.proofs.Answering.{range-is, range-small}
+use Rattle.questions.specs.Tests.{rangeAnswer}
+use Rattle.questions.proofs.Answering.{range-is, range-small}
 use Rattle.set.proofs.Changing.{map-range, map-empty, map-flags, map-exists, map-frames, map-passes}
 use Rattle.set.proofs.map_answer.Statement.{statement}
 use Rattle.set.proofs.map_answer.Tie as tie

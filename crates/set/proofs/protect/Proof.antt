@@ -5,7 +5,7 @@ use mathlib.Core.Path.{_≡_, _∙_, sym}
 use borrow.Author.Tests.{eqb-true, eqb-false, not-true, not-false}
 use Rattle.area.specs.Answer.{number}
 use Rattle.protection.proofs.Words.{good-with-most}
-use Rattle.set.proofs.Answering.{range-small}
+use Rattle.questions.proofs.Answering.{range-small}
 use Rattle.set.proofs.Changing.{ProtectPassed, protect-passed, protect-refused, protect-nothing, protect-no-room, protect-done}
 use Rattle.set.proofs.protect.Statement.{statement}
 use Rattle.set.proofs.protect.Tie as tie

@@ -2,7 +2,7 @@
 use borrow.Author.Needs.{needs}
 use mathlib.Core.Path.{_≡_, _∙_, sym}
 use borrow.Author.Tests.{eqb-true, eqb-false, not-true, not-false}
-use Rattle.set.specs.Tests.{rangeAnswer}
+use Rattle.questions.specs.Tests.{rangeAnswer}
 use Rattle.set.proofs.Changing.{protect-range, protect-set, protect-clear, protect-passes}
 use Rattle.set.proofs.protect_answer.Statement.{statement}
 use Rattle.set.proofs.protect_answer.Tie as tie

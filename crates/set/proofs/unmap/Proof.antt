@@ -6,7 +6,7 @@ use borrow.Author.Tests.{eqb-true, eqb-false, not-true, not-false}
 use Rattle.area.specs.Answer.{number}
 use Rattle.area_list.proofs.Goodness.{tables-are}
 use Rattle.area_list.proofs.Positions.{sorted}
-use Rattle.set.proofs.Answering.{Range, range-is, range-small}
+use Rattle.questions.proofs.Answering.{Range, range-is, range-small}
 use Rattle.set.proofs.Changing.{GapFits, gap-fits, unmap-refused, unmap-nothing, unmap-no-room, unmap-done}
 use Rattle.set.proofs.unmap.Statement.{statement}
 use Rattle.set.proofs.unmap.Tie as tie

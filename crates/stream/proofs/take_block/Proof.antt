@@ -9,7 +9,7 @@ use borrow.Author.Tests.{eq-eqb}
 use Rattle.area.specs.Answer.{number, Reply}
 use Rattle.records.proofs.Feeding.{fed-answer, fed-leaves}
 use Rattle.records.specs.Feed.{Session}
-use Rattle.records.specs.Request.{recordSize}
+use Rattle.requests.specs.Request.{recordSize}
 use Rattle.stream.proofs.take_block.Statement.{statement}
 use Rattle.stream.proofs.take_block.Tie as tie
 

@@ -4,7 +4,7 @@ use mathlib.Core.List.{List}
 use mathlib.Core.Path.{_≡_, refl, sym, _∙_}
 use native.Mathlib.Omega.{arith}
 use lib.ListN.{length}
-use Rattle.records.specs.Request.{recordSize}
+use Rattle.requests.specs.Request.{recordSize}
 use Rattle.stream.proofs.take_input.Statement.{statement}
 use Rattle.stream.proofs.take_input.Tie as tie
 

@@ -58,7 +58,7 @@ use Rattle.area_list.specs.Layout.{rows}
 use Rattle.area_list.specs.declared.Item as items
 use Rattle.area_list.proofs.Item as I
 use Rattle.area_list.proofs.Item.Laws as I′
-use Rattle.set.specs.Question.{lenRule}
+use Rattle.questions.specs.Question.{lenRule}
 use Rattle.walk.specs.Walking.{walkOutcome, walkRule, after, yielded, moved}
 use Rattle.walk.specs.Mapped.{isNone, pagesIn, pagesUnder, mappedOutcome, mappedRule}
 use Rattle.walk.specs.declared.Walk.{Walk}

@@ -43,14 +43,14 @@ use denote.Triple.Walked.{says, Stays, stay-none, stay-none-slice, walkOf, goes-
 use denote.Exit.{yes}
 use Rattle.area.proofs.Answer as N
 use Rattle.area.proofs.Answer.Laws as N′
-use Rattle.set.specs.Question.{lenOutcome, lenRule}
-use Rattle.set.specs.declared.Counted.{Counted}
-use Rattle.set.proofs.Counted as S
-use Rattle.set.proofs.Counted.Laws as S′
-use Rattle.set.proofs.len as ln
-use Rattle.set.proofs.len.Symbol as ln-def
-use Rattle.set.proofs.len.Symbol.{name as #set·len}
-use Rattle.set.proofs.len.Met as ln-thm
+use Rattle.questions.specs.Question.{lenOutcome, lenRule}
+use Rattle.questions.specs.declared.Counted.{Counted}
+use Rattle.questions.proofs.Counted as S
+use Rattle.questions.proofs.Counted.Laws as S′
+use Rattle.questions.proofs.len as ln
+use Rattle.questions.proofs.len.Symbol as ln-def
+use Rattle.questions.proofs.len.Symbol.{name as #set·len}
+use Rattle.questions.proofs.len.Met as ln-thm
 use Rattle.walk.specs.declared.Walk.{Walk}
 use Rattle.walk.proofs.Yields.{walkAt, begun-is}
 use Rattle.walk.proofs.Walk as T
@@ -175,4 +175,4 @@ new-spec 𝓤 H 𝓜 𝓖 𝓡 =
     entered 𝓤 H (tripleOf 𝓤 H (𝓖 .A) f.signature (f.spec 𝓤 H (𝓖 .A) (𝓜 .mem) (𝓡 .run)))
     (tables 𝓤 H 𝓜 𝓡 code.env .C) (tables 𝓤 H 𝓜 𝓡 code.env .Λ) #walk·new code.function (code.unfolded 𝓤 H 𝓜 𝓡)
     (f-meets 𝓤 H (𝓖 .A) (givenOf 𝓤 H 𝓜 𝓖) (𝓜 .mem) (𝓡 .run) (tablesOf 𝓤 H 𝓜 (tables 𝓤 H 𝓜 𝓡 code.env))
-    (cited 𝓤 H (Len 𝓤 H (𝓖 .A) (𝓜 .mem) (𝓡 .run)) 𝓜 𝓡 code.env #set·len ln-def.routine code.calls-set·len (ln-thm.met 𝓤 H 𝓜 𝓖 𝓡)))
+    (cited 𝓤 H (Len 𝓤 H (𝓖 .A) (𝓜 .mem) (𝓡 .run)) 𝓜 𝓡 code.env #set·len ln-def.routine code.calls-questions·len (ln-thm.met 𝓤 H 𝓜 𝓖 𝓡)))

@@ -1,0 +1,118 @@
+-- Laws of lines: texts put one after another, hex digits from the last to the first, how long a line is. Assumes nothing.
+use Prim.Native.Nat.{ℕ, zero, suc, _+_, _/_, _%_, _≤_, _<_}
+use mathlib.Core.Path.{_≡_, refl, sym, ap, _∙_}
+use mathlib.Core.List.{List, [], _∷_, _++_}
+use native.Mathlib.Omega.{arith}
+use lib.ListN.{length, getD, take, set, length-append, length-set}
+use lib.Seq.{take-at, getD-at, getD-take, take-take, take-all}
+use Rattle.lists.specs.Over.{over}
+use Rattle.lists.proofs.Over.{over-right, over-one, length-over, Falls, fall-begins, fall-goes-on, fall-ends}
+use Rattle.area.specs.Answer.{number}
+use Rattle.area.specs.declared.Answer.{Answer}
+use Rattle.area.specs.declared.Answer.the-variants.{Accepted, BadTables, NotAligned, InvalidParam, AlreadyExists, BadState, NoRoom, NotFound}
+use Rattle.lines.specs.Line.{digit, hex, rangeLength, rangeBytes, longestLine, lineBytes, Put}
+use Rattle.lines.specs.declared.Line.{Line}
+use Rattle.lines.specs.declared.Line.the-variants.{Ok, No, In, At, Over, Free, Bad, Cut, Area}
+
+-- ---- putting
+
+-- a list laid over the buffer, and the place after it
+pub puts : (before : List ℕ) (at : ℕ) (text after : List ℕ) (next : ℕ)
+    → at + length text ≤ length before → after ≡ over before at text → next ≡ at + length text → Put before at text after next
+puts before at text after next room e n =
+    record { room = room; long = ap length e ∙ length-over before at text room; written = e; past = n }
+
+-- one text after another
+pub put-then : {a b c xs ys : List ℕ} {p q r : ℕ} → Put a p xs b q → Put b q ys c r → Put a p (xs ++ ys) c r
+put-then {a} {b} {c} {xs} {ys} {p} {q} {r} s t =
+    puts a p (xs ++ ys) c r (omega (arith, length-append xs ys, s .past, s .long, t .room))
+    (t .written ∙ rw (s .written, s .past) (over-right a p xs ys (omega (arith, s .room))))
+    (omega (arith, length-append xs ys, s .past, t .past))
+
+pub put-one : (before : List ℕ) (at byte : ℕ) → at < length before → Put before at (byte ∷ []) (set before at byte) (at + 1)
+put-one before at byte h = puts before at (byte ∷ []) (set before at byte) (at + 1) (omega arith) (over-one before at byte h) (omega arith)
+
+-- ---- hex digits
+
+pub length-hex : (n v : ℕ) → length (hex n v) ≡ n
+unfolding hex
+length-hex zero v = refl
+length-hex (suc n) v = length-append (hex n (v / 16)) (digit (v % 16) ∷ []) ∙ omega (arith, length-hex n (v / 16))
+
+-- the loop over digits: k of them are left, those of rest
+pub record Spells (out₀ : List ℕ) (at digits value : ℕ) (out : List ℕ) (k rest : ℕ) : Type 0 where
+  pub falls : Falls at (hex digits value) k out₀ out
+  pub left : take k (hex digits value) ≡ hex k rest
+
+pub spells-begins : (out : List ℕ) (at digits value : ℕ) → Spells out at digits value out digits value
+spells-begins out at digits value =
+    record {
+      falls = fall-begins at (hex digits value) out digits (sym (length-hex digits value));
+      left = take-all digits (hex digits value) (omega (arith, length-hex digits value));
+    }
+
+module _ {out₀ : List ℕ} {at digits value : ℕ} {out : List ℕ} {k rest : ℕ} (s : Spells out₀ at digits value out k rest) where
+  module _ (j : ℕ) (e : k ≡ suc j) where
+    step : take (suc j) (hex digits value) ≡ hex j (rest / 16) ++ (digit (rest % 16) ∷ [])
+    unfolding hex
+    step = rw e at (s .left)
+
+    last : digit (rest % 16) ≡ getD (hex digits value) j 0
+    last =
+        sym (getD-at (hex j (rest / 16)) (digit (rest % 16)) [] 0 j (length-hex j (rest / 16)))
+        ∙ rw (← step) (getD-take (suc j) (hex digits value) j 0 (omega arith))
+
+    before-last : take j (hex digits value) ≡ hex j (rest / 16)
+    before-last =
+        sym (take-take j (suc j) (hex digits value) (omega arith))
+        ∙ rw step (take-at (hex j (rest / 16)) (digit (rest % 16) ∷ []) j (length-hex j (rest / 16)))
+
+    pub spells-on : at + digits ≤ length out₀ → (byte : ℕ) → byte ≡ digit (rest % 16) → Spells out₀ at digits value (set out (at + j) byte) j (rest / 16)
+    spells-on room byte b =
+        record {
+          falls = fall-goes-on (s .falls) (omega (arith, length-hex digits value)) j byte e (b ∙ last);
+          left = before-last;
+        }
+
+  pub spells-ends : at + digits ≤ length out₀ → k ≡ 0 → Put out₀ at (hex digits value) out (at + digits)
+  spells-ends room e =
+      puts out₀ at (hex digits value) out (at + digits) (omega (arith, length-hex digits value)) (fall-ends (s .falls) e)
+      (omega (arith, length-hex digits value))
+
+-- ---- lengths
+
+pub length-range : (start end : ℕ) → length (rangeBytes start end) ≡ rangeLength
+unfolding rangeBytes
+length-range start end = simp (length-append, length-hex)
+
+pub number-small : (a : Answer) → number a < 10
+number-small Accepted = omega arith
+number-small BadTables = omega arith
+number-small NotAligned = omega arith
+number-small InvalidParam = omega arith
+number-small AlreadyExists = omega arith
+number-small BadState = omega arith
+number-small NoRoom = omega arith
+number-small NotFound = omega arith
+
+pub line-short : (line : Line) → length (lineBytes line) ≤ longestLine
+unfolding lineBytes
+line-short Ok = omega arith
+line-short (No a) = omega arith
+line-short (In start end) = simp (length-append, length-range) (omega arith)
+line-short (At a) = simp (length-append, length-hex) (omega arith)
+line-short Over = omega arith
+line-short Free = omega arith
+line-short Bad = omega arith
+line-short Cut = omega arith
+line-short (Area start end flags) = simp (length-append, length-range, length-hex) (omega arith)
+
+-- ---- one line, from the texts it is made of
+
+pub as-line : {a b : List ℕ} {p q : ℕ} (line made : Line) → line ≡ made → Put a p (lineBytes made) b q → Put a p (lineBytes line) b q
+as-line line made e s = rw e s
+
+pub put-no : {a b : List ℕ} {p q : ℕ} (answer : Answer) (byte n : ℕ) → byte ≡ digit n → n ≡ number answer
+    → Put a p (110 ∷ 111 ∷ 32 ∷ byte ∷ 10 ∷ []) b q → Put a p (lineBytes (No answer)) b q
+unfolding lineBytes
+put-no answer byte n e f s = rw (← f, ← e) s
