@@ -1,4 +1,4 @@
--- Laws of one step: the line of an answer, and a request's outcome from what the set's call promises. Assumes nothing.
+-- Laws of a step: the line of an answer, and a request's outcome from what the set's call promises. Assumes nothing.
 use Prim.Native.Nat.{ℕ, zero, suc}
 use mathlib.Core.Path.{_≡_, refl, ap}
 use mathlib.Core.List.{List}
