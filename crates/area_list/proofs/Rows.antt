@@ -2,13 +2,13 @@
 use Prim.Native.Nat.{ℕ, zero, suc, _+_, _-_, _*_, _^_, _≤_, _<_}
 use mathlib.Core.Path.{_≡_, refl, sym, ap, _∙_}
 use mathlib.Core.Bool.{true, false, true≢false}
-use mathlib.Core.List.{List}
+use mathlib.Core.List.{List, _++_}
 use native.Mathlib.Omega.{arith}
-use native.Mathlib.Decide.{decLe}
+use native.Mathlib.Decide.{decLe, ℕ-discrete}
 use native.Mathlib.Nat.{add-zero}
 use lib.Dec.{ltb}
-use lib.ListN.{length, getD, drop}
-use lib.Seq.{getD-drop, drop-drop}
+use lib.ListN.{length, getD, take, drop, length-drop}
+use lib.Seq.{length-take-le, getD-take, getD-drop, drop-drop, take-add, drop-at}
 use borrow.Author.Tests.{le-leb, lt-leb, eq-eqb, ne-eqb, ltb-true}
 use Rattle.page_table.specs.declared.Backend.the-variants.{Lazy, Linear}
 use Rattle.area.specs.Area.{nothing}
@@ -44,6 +44,14 @@ pub linear-backend : (w : ℕ) → (w ≡ 0 → ⊥) → backendOf w ≡ Linear 
 unfolding backendOf
 linear-backend w z = rw (ne-eqb w 0 z)
 
+-- a legal word has 33 bits at most
+pub legal-short : (w : ℕ) → legalWord w ≡ true → w < 2 ^ 33
+legal-short w e =
+    elim (ℕ-discrete w 0) [
+      | yes z ↦ omega arith
+      | no z ↦ linear-word w z e .1
+    ]
+
 -- ---- where the areas lie
 
 -- the words of the area at a slot
@@ -71,3 +79,30 @@ unfolding rows rowAt
 rows-at ws zero i h = absurd (omega arith)
 rows-at ws (suc n) zero h = refl
 rows-at ws (suc n) (suc i) h = rows-at (drop wordsPerArea ws) n i (omega arith) ∙ ap areaOf (slot-under ws i)
+
+-- ---- words past the areas say nothing
+
+module _ (ws : List ℕ) (n : ℕ) (room : wordsPerArea * suc n ≤ length ws) where
+  first-and-rest : take (wordsPerArea * suc n) ws ≡ take wordsPerArea ws ++ take (wordsPerArea * n) (drop wordsPerArea ws)
+  first-and-rest = let e : 4 * suc n ≡ 4 + 4 * n = omega arith in rw e (take-add 4 (4 * n) ws)
+
+  pub first-taken : rowOf (take (wordsPerArea * suc n) ws) ≡ rowOf ws
+  unfolding rowOf
+  first-taken =
+      rw (
+        getD-take (4 * suc n) ws 0 0 (omega arith),
+        getD-take (4 * suc n) ws 1 0 (omega arith),
+        getD-take (4 * suc n) ws 2 0 (omega arith),
+        getD-take (4 * suc n) ws 3 0 (omega arith),
+      )
+
+  pub rest-taken : drop wordsPerArea (take (wordsPerArea * suc n) ws) ≡ take (wordsPerArea * n) (drop wordsPerArea ws)
+  rest-taken = rw first-and-rest (drop-at (take 4 ws) (take (4 * n) (drop 4 ws)) 4 (length-take-le 4 ws (omega arith)))
+
+  pub rest-room : wordsPerArea * n ≤ length (drop wordsPerArea ws)
+  rest-room = omega (arith, length-drop 4 ws)
+
+pub rows-taken : (ws : List ℕ) (n : ℕ) → wordsPerArea * n ≤ length ws → rows (take (wordsPerArea * n) ws) n ≡ rows ws n
+unfolding rows
+rows-taken ws zero h = refl
+rows-taken ws (suc n) h = rw (first-taken ws n h, rest-taken ws n h, rows-taken (drop wordsPerArea ws) n (rest-room ws n h))

@@ -175,7 +175,7 @@ pub store-good : (list : List Area) (ws : List ℕ) (count p : ℕ) → p ≤ ma
 unfolding store
 store-good list ws count p few fits room o all =
     rows-decide (store list ws count) (length list) p few (rw (length-store list ws count room) fits)
-    ∙ rw (sub-zero (length list)) (good-flat (replicate (wordsPerArea * (count - length list)) 0 ++ drop (wordsPerArea * max count (length list)) ws) o all)
+    ∙ good-flat (replicate (wordsPerArea * (count - length list)) 0 ++ drop (wordsPerArea * max count (length list)) ws) o all
 
 -- the list that was there changes nothing
 pub store-same : {ws : List ℕ} {count : ℕ} → SortedRows ws count → store (rows ws count) ws count ≡ ws

@@ -3,7 +3,7 @@
 -- earlier than the area before it ends." The parts on one area alone are `goodArea` of the crate area.
 -- Laws: `proofs/Goodness.antt`. Assumes nothing.
 use Prim.Native.Nat.{ℕ, zero, suc, _*_}
-use mathlib.Core.Bool.{Bool, true, _&&_}
+use mathlib.Core.Bool.{Bool, true, _&&_, cond}
 use mathlib.Core.List.{List, [], _∷_}
 use lib.Dec.{leb}
 use lib.ListN.{length, drop}
@@ -32,6 +32,11 @@ goodRow space before r = every (rowTests space before r)
 unfoldable pub goodRows : ℕ → ℕ → List ℕ → ℕ → Bool
 goodRows space before ws zero = true
 goodRows space before ws (suc n) = goodRow space before (rowOf ws) && goodRows space (rowOf ws .end) (drop wordsPerArea ws) n
+
+-- the first of them that breaks the rule, from 0, or n
+unfoldable pub firstBad : ℕ → ℕ → List ℕ → ℕ → ℕ
+firstBad space before ws zero = 0
+firstBad space before ws (suc n) = cond (goodRow space before (rowOf ws)) (suc (firstBad space (rowOf ws .end) (drop wordsPerArea ws) n)) 0
 
 abbrev pub tableTests : List ℕ → ℕ → ℕ → List Bool
 tableTests ws count p =

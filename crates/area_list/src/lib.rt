@@ -9,9 +9,10 @@ ghost use mathlib.Core.Path.{_≡_};
 ghost use mathlib.Core.Bool.{true};
 ghost use Prim.Native.Nat.{_+_, _*_, _<_, _≤_};
 ghost use lib.ListN.{length, getD};
+ghost use Rattle.page_table.specs.Limits.{maxPages};
 ghost use Rattle.area.specs.Area.{nothing};
 ghost use Rattle.area_list.specs.Layout.{wordsPerArea, capacityOf, rowAt, areaOf, legalWord, backendOf, LegalRow, rows};
-ghost use Rattle.area_list.specs.Good.{goodRow, goodTables};
+ghost use Rattle.area_list.specs.Good.{spaceOf, goodRow, firstBad, goodTables};
 ghost use Rattle.area_list.specs.Item.{itemAt};
 ghost use Rattle.area_list.specs.Position.{SortedRows, Rising, Boundary, firstWhere, endsPast, startsFrom, contains};
 ghost use Rattle.area_list.specs.Meet.{sharesAny};
@@ -119,7 +120,27 @@ impl Row {
     }
 }
 
-// Whether the tables are good: the words of all areas are looked at once, in order.
+// The first slot whose area breaks the rule of good tables, or count: the words of all areas are looked at once, in order.
+pub fn first_bad(areas: &[u64], count: usize, pages: usize) -> usize
+    requires { ⌜ pages ≤ maxPages ⌝ }
+    requires { ⌜ count ≤ capacityOf (length (now areas)) ⌝ }
+    ensures { λ r. ⌜ r ≡ firstBad (spaceOf pages) 0 (now (areas .entry)) count ⌝ }
+{
+    let space = PAGE * (pages as u64);
+    let mut before = 0;
+    let mut slot = 0;
+    while slot < count {
+        let row = row_at(areas, slot);
+        if !row.good_after(space, before) {
+            return slot;
+        }
+        before = row.end;
+        slot += 1;
+    }
+    count
+}
+
+// Whether the tables are good.
 pub fn good(areas: &[u64], count: usize, pages: usize) -> bool
     ensures { λ r. ⌜ r ≡ goodTables (now (areas .entry)) count pages ⌝ }
 {
@@ -129,18 +150,7 @@ pub fn good(areas: &[u64], count: usize, pages: usize) -> bool
     if capacity(areas.len()) < count {
         return false;
     }
-    let space = PAGE * (pages as u64);
-    let mut before = 0;
-    let mut slot = 0;
-    while slot < count {
-        let row = row_at(areas, slot);
-        if !row.good_after(space, before) {
-            return false;
-        }
-        before = row.end;
-        slot += 1;
-    }
-    true
+    first_bad(areas, count, pages) == count
 }
 
 // The area at a slot.

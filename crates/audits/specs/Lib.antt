@@ -1,0 +1,4 @@
+pub mod Agree
+pub mod Audit
+pub mod Dump
+pub mod Says
