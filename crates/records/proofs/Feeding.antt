@@ -18,7 +18,7 @@ use Rattle.questions.specs.Question.{overlapsRule}
 use Rattle.lines.specs.Line.{longestLine, lineBytes, Put}
 use Rattle.requests.specs.Request.{recordSize, requestOf}
 use Rattle.records.specs.Step.{Ran, answerLine, runRule, stepRule}
-use Rattle.records.specs.Feed.{Session, session, Heard, heard, wholeRecord, took, nextFilled, after, takes, roomFor, feedAnswer, feedRule, settled}
+use Rattle.records.specs.Feed.{Session, session, Heard, heard, wholeRecord, took, nextFilled, after, takes, roomFor, feedAnswer, feedRule, settled, filledAfter, fedFilled}
 use Rattle.lines.specs.declared.Line.{Line}
 use Rattle.lines.specs.declared.Line.the-variants as line
 use Rattle.requests.specs.declared.Request.{Request}
@@ -203,25 +203,36 @@ module _ (size filled input room : ℕ) where
       (λ q. absurd (omega (arith, z, feed-filled (eqb-true _ _ p) (ltb-false _ _ q)))))
       (λ p. absurd (omega (arith, z, feed-size (eqb-false _ _ p))))
 
+filled-kept : (filled n : ℕ) (s : Session) → (n ≡ 0 → ⊥) → filled ≡ filledAfter filled n s
+unfolding filledAfter
+filled-kept filled zero s h = absurd (h refl)
+filled-kept filled (suc n) s h = refl
+
+filled-held : (filled n : ℕ) (s : Session) → n ≡ 0 → length (s .held) ≡ filledAfter filled n s
+unfolding filledAfter
+filled-held filled n s z = sym (rw z)
+
 module _ (t : Tables) (bytes : List ℕ) (filled : ℕ) (input out : List ℕ) (n : ℕ) (e : n ≡ feedAnswer (length bytes) filled (length input) (length out)) where
   pub feed-refused : (n ≡ 0 → ⊥)
       → (reply n (session t (take filled bytes)) ≡ settled (feedRule t bytes filled input (length out)))
-      × Put out 0 (feedRule t bytes filled input (length out) .value .said) out 0
+      × (Put out 0 (feedRule t bytes filled input (length out) .value .said) out 0
+      × (filled ≡ fedFilled filled (feedRule t bytes filled input (length out))))
   unfolding feedRule
   feed-refused h =
       let rule : reply n (heard (session t (take filled bytes)) []) ≡ feedRule t bytes filled input (length out) =
       rw e (reply-refused (heard (session t (take filled bytes)) []) _ (takes (session t (take filled bytes)) input) (λ z. h (e ∙ z))) in
-      (ap settled rule, rw (← rule) (put-nothing out 0 (omega arith)))
+      (ap settled rule, (rw (← rule) (put-nothing out 0 (omega arith)), rw (← rule) (filled-kept filled n (session t (take filled bytes)) h)))
 
-  pub feed-done : n ≡ 0 → (s : Session) (out′ : List ℕ) (at : ℕ)
-      → (s ≡ takes (session t (take filled bytes)) input .session) × Put out 0 (takes (session t (take filled bytes)) input .said) out′ at
+  pub feed-done : n ≡ 0 → (s : Session) (filled′ : ℕ) → length (s .held) ≡ filled′ → (out′ : List ℕ) (at : ℕ)
+      → s ≡ takes (session t (take filled bytes)) input .session → Put out 0 (takes (session t (take filled bytes)) input .said) out′ at
       → (reply n s ≡ settled (feedRule t bytes filled input (length out)))
-      × Put out 0 (feedRule t bytes filled input (length out) .value .said) out′ at
+      × (Put out 0 (feedRule t bytes filled input (length out) .value .said) out′ at
+      × (filled′ ≡ fedFilled filled (feedRule t bytes filled input (length out))))
   unfolding feedRule
-  feed-done z s out′ at d =
+  feed-done z s filled′ l out′ at d p =
       let rule : reply n (takes (session t (take filled bytes)) input) ≡ feedRule t bytes filled input (length out) =
       rw e (reply-accepted (heard (session t (take filled bytes)) []) _ (takes (session t (take filled bytes)) input) (sym e ∙ z)) in
-      (rw (d .0) (ap settled rule), rw (← rule) (d .1))
+      (rw d (ap settled rule), (rw (← rule) p, rw (← rule, ← d) (sym l ∙ filled-held filled n s z)))
 
 -- ---- what is held is part of a record
 

@@ -79,6 +79,14 @@ feedRule t bytes filled input room =
 abbrev pub settled : Reply Heard → Reply Session
 settled r = reply (r .answer) (r .value .session)
 
+-- how many bytes are held afterwards: the record's bytes so far, or as many as before in a refusal
+unfoldable pub filledAfter : ℕ → ℕ → Session → ℕ
+filledAfter filled zero s = length (s .held)
+filledAfter filled (suc n) s = filled
+
+abbrev pub fedFilled : ℕ → Reply Heard → ℕ
+fedFilled filled r = filledAfter filled (r .answer) (r .value .session)
+
 -- ---- the end of the input
 
 -- "`cut` for a partial last record"

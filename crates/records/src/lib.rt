@@ -20,7 +20,7 @@ ghost use Rattle.set.specs.Change.{tables};
 ghost use Rattle.lines.specs.Line.{longestLine, lineBytes, Put};
 ghost use Rattle.requests.specs.Request.{recordSize};
 ghost use Rattle.records.specs.Step.{stepOutcome, answerLine, runRule, stepRule};
-ghost use Rattle.records.specs.Feed.{session, took, nextFilled, takes, roomFor, feedAnswer, feedRule, settled, cutLine, listing, finishRule};
+ghost use Rattle.records.specs.Feed.{session, took, nextFilled, takes, roomFor, feedAnswer, feedRule, settled, fedFilled, cutLine, listing, finishRule};
 
 // What a record did: the count afterwards, and the line.
 pub struct Stepped {
@@ -184,6 +184,7 @@ fn take_bytes(
     ensures { λ r. ⌜ session (tables (now (areas .exit)) (now (pages .exit)) (r .count)) (take (r .filled) (now (bytes .exit)))
         ≡ takes (session (tables (now (areas .entry)) (now (pages .entry)) count) (take filled (now (bytes .entry)))) (now (input .entry)) .session ⌝ }
     ensures { λ r. ⌜ Put (now (out .entry)) 0 (takes (session (tables (now (areas .entry)) (now (pages .entry)) count) (take filled (now (bytes .entry)))) (now (input .entry)) .said) (now (out .exit)) (r .at) ⌝ }
+    ensures { λ r. ⌜ r .filled < recordSize ⌝ }
 {
     let mut taken = Taken {
         count,
@@ -247,6 +248,7 @@ pub fn feed(
         ≡ settled (feedRule (tables (now (areas .entry)) (now (pages .entry)) count) (now (bytes .entry)) filled (now (input .entry)) (length (now (out .entry)))) ⌝ }
     ensures { λ r. ⌜ Put (now (out .entry)) 0 (feedRule (tables (now (areas .entry)) (now (pages .entry)) count) (now (bytes .entry)) filled (now (input .entry)) (length (now (out .entry))) .value .said)
         (now (out .exit)) (r .written) ⌝ }
+    ensures { λ r. ⌜ r .filled ≡ fedFilled filled (feedRule (tables (now (areas .entry)) (now (pages .entry)) count) (now (bytes .entry)) filled (now (input .entry)) (length (now (out .entry)))) ⌝ }
 {
     let answer = feed_answer(bytes, filled, input, out);
     if !answer.accepted() {

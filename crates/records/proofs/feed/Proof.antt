@@ -1,5 +1,7 @@
 -- `feed` meets its contract. Assumes nothing.
 use mathlib.Core.Path.{_≡_, sym, _∙_}
+use native.Mathlib.Omega.{arith}
+use lib.Seq.{length-take-le}
 use borrow.Author.Needs.{needs}
 use borrow.Author.Tests.{eqb-true, eqb-false, not-true, not-false}
 use Rattle.area.specs.Answer.{number}
@@ -42,7 +44,12 @@ same-length-6 : tie.Need-same-length-6
 same-length-6 c = search needs
 
 returns-2 : tie.Need-returns-2
-returns-2 c = feed-done _ _ _ _ _ _ (c .before .before .before .before .before .before .before .before .before .before .before .before .before .before .before .feed-answer .ensures) (passed (c .before .before .before .before .before .before .before .before .before .before .before .before .before)) _ _ _ (c .before .before .before .before .before .before .before .before .take-bytes .ensures)
+returns-2 c =
+    let call = c .before .before .before .before .before .before .before .before .take-bytes in
+    let fits = feed-accepted _ _ _ _ (sym (c .before .before .before .before .before .before .before .before .before .before .before .before .before .before .before .feed-answer .ensures) ∙ passed (c .before .before .before .before .before .before .before .before .before .before .before .before .before)) in
+    feed-done _ _ _ _ _ _ (c .before .before .before .before .before .before .before .before .before .before .before .before .before .before .before .feed-answer .ensures) (passed (c .before .before .before .before .before .before .before .before .before .before .before .before .before)) _ (call .result .filled)
+    (length-take-le (call .result .filled) (call .last .1 .1 .1 .0) (omega (arith, call .ensures .1 .1, call .kept .1 .1 .1 .0, fits .0)))
+    _ _ (call .ensures .0) (call .ensures .1 .0)
 
 pub feed-spec : {M : Type 1} → statement M
 feed-spec =

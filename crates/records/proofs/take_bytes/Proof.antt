@@ -57,7 +57,9 @@ same-length-4 : tie.Need-same-length-4 Inv-loop μ-loop
 same-length-4 c = c .before .loop .inv .0 .put .long
 
 returns : tie.Need-returns Inv-loop μ-loop
-returns c = feeds-end (c .before .loop .inv .0) (c .loop-test .left)
+returns c =
+    let end = feeds-end (c .before .loop .inv .0) (c .loop-test .left) in
+    (end .0, (end .1, c .before .loop .inv .1 .part))
 
 pub take-bytes-spec : {M : Type 1} → statement M
 take-bytes-spec =

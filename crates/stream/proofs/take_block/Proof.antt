@@ -79,7 +79,7 @@ array-share-prefix-out : tie.Need-array-share-prefix-out
 array-share-prefix-out c = search needs
 
 slice-aggregate-tell : tie.Need-slice-aggregate-tell
-slice-aggregate-tell c = let put = c .before .before .before .before .before .before .before .before .before .before .feed .ensures .1 in sym (length-take-le _ _ (omega (arith, put .room, put .past, put .long)))
+slice-aggregate-tell c = let put = c .before .before .before .before .before .before .before .before .before .before .feed .ensures .1 .0 in sym (length-take-le _ _ (omega (arith, put .room, put .past, put .long)))
 
 tell-requires : tie.Need-tell-requires
 tell-requires c κs = search needs

@@ -1,0 +1,42 @@
+// The service desk's programs: the audit of a dump, and the dump of what requests leave. What matters is in the crate audits.
+use audits::Verdict;
+use audits::audit;
+use libc::STDIN_FILENO;
+use libc::STDOUT_FILENO;
+
+// The longest legal dump has 24,592 bytes; a byte more shows that this one is longer, and the rest is not read.
+const ENOUGH: usize = 24593;
+
+// A word and a place, as a line.
+fn say_place(word: &[u8], place: usize) -> bool {
+    if !io::write_all(STDOUT_FILENO, word) {
+        return false;
+    }
+    if !io::print_decimal(STDOUT_FILENO, place as u64) {
+        return false;
+    }
+    io::write_all(STDOUT_FILENO, b"\n")
+}
+
+// The line of a verdict; false where it cannot be written.
+pub fn say(verdict: Verdict) -> bool {
+    match verdict {
+        Verdict::Table => io::write_all(STDOUT_FILENO, b"table\n"),
+        Verdict::Area(slot) => say_place(b"area ", slot),
+        Verdict::Page(page) => say_place(b"page ", page),
+        Verdict::Good => io::write_all(STDOUT_FILENO, b"good\n"),
+    }
+}
+
+// The audit program: a dump from standard input, one line to standard output.
+pub fn audit_input() {
+    let mut bytes = [0u8; ENOUGH];
+    let n = io::read_full(STDIN_FILENO, &mut bytes);
+    // Input that ended reads as nothing once more; input that failed fails again.
+    let mut more = [0u8; 1];
+    if libc::read(STDIN_FILENO, &mut more) < 0 {
+        os::fail(b"standard input");
+        return;
+    }
+    say(audit(&bytes[..n]));
+}
