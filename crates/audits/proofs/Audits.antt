@@ -1,7 +1,7 @@
 -- Laws of the audit: its verdicts one by one, and what each says of the dump. Assumes nothing.
 use Prim.Native.Nat.{ℕ, _+_, _*_, _≤_, _<_}
-use mathlib.Core.Path.{_≡_, refl, sym, ap, _∙_}
-use mathlib.Core.Bool.{Bool, true, false, and-true}
+use mathlib.Core.Path.{_≡_, sym, _∙_}
+use mathlib.Core.Bool.{true, false, and-true}
 use mathlib.Core.List.{List}
 use native.Mathlib.Omega.{arith}
 use lib.Dec.{eqb}
@@ -15,11 +15,9 @@ use Rattle.area_list.specs.Layout.{wordsPerArea, capacityOf, rows}
 use Rattle.area_list.specs.Good.{spaceOf, firstBad, goodTables}
 use Rattle.area_list.proofs.Goodness.{bad-within, first-decides}
 use Rattle.audits.specs.Agree.{firstWrong}
-use Rattle.audits.specs.Dump.{wordSize, entrySize, headerSize, entriesAt, dumpLength, countIn, pagesIn, wordsIn, entriesIn, numbersAt}
+use Rattle.audits.specs.Dump.{wordSize, entrySize, headerSize, dumpLength, countIn, pagesIn, wordsIn, entriesIn, numbersAt}
 use Rattle.audits.specs.Audit.{mostAreas, mostPages, found, tablesRule, sizeTests, sizedDump, Sized, Lent, auditRule}
-use Rattle.audits.specs.declared.Verdict.{Verdict}
 use Rattle.audits.specs.declared.Verdict.the-variants.{Table, Area, Page, Good}
-use Rattle.audits.proofs.Dumps.{length-numbers}
 
 -- ---- tables
 

@@ -79,7 +79,7 @@ length-all size (n ∷ ns) =
     length-append (bytesOf size n) (allBytes size ns) ∙ omega (arith, length-bytes size n, length-all size ns, mul-suc size (length ns))
 
 -- one number that fits
-number-back : (size n : ℕ) (rest : List ℕ) → n < 256 ^ size → numberAt (bytesOf size n ++ rest) 0 size ≡ n
+pub number-back : (size n : ℕ) (rest : List ℕ) → n < 256 ^ size → numberAt (bytesOf size n ++ rest) 0 size ≡ n
 unfolding numberAt bytesOf
 number-back zero n rest h = omega arith
 number-back (suc size) n rest h =

@@ -4,3 +4,4 @@ pub mod Dumps
 pub mod Lowest
 pub mod Own
 pub mod Verdicts
+pub mod Writing

@@ -1,7 +1,7 @@
 -- Whatever our own set leaves is accepted (02, W1): after any calls from fresh tables, the dump of the tables is good.
 -- Assumes nothing.
 use Prim.Native.Nat.{ℕ, zero, suc, _+_, _*_, _^_, _≤_, _<_}
-use mathlib.Core.Path.{_≡_, refl, sym, ap, _∙_}
+use mathlib.Core.Path.{_≡_, sym, _∙_}
 use mathlib.Core.Bool.{true, false}
 use mathlib.Core.List.{List, [], _∷_, _++_, append-nil}
 use native.Mathlib.Omega.{arith}
@@ -22,10 +22,9 @@ use Rattle.history.specs.Legal.{legalCalls}
 use Rattle.history.specs.Runs.{fresh, after, accepted}
 use Rattle.history.proofs.Following.{Kept, facts, kept}
 use Rattle.history.proofs.Lookups.{seen, lookup}
-use Rattle.audits.specs.Agree.{differs, unmapped, disagrees, Agrees}
+use Rattle.audits.specs.Agree.{unmapped, disagrees}
 use Rattle.audits.specs.Dump.{wordSize, entrySize, headerSize, entriesAt, dumpLength, numbersAt, countIn, pagesIn, wordsIn, entriesIn, allBytes, dumpOf}
-use Rattle.audits.specs.Audit.{mostAreas, mostPages, Sized, auditRule}
-use Rattle.audits.specs.Says.{GoodDump}
+use Rattle.audits.specs.Audit.{mostAreas, mostPages, auditRule}
 use Rattle.audits.specs.declared.Verdict.the-variants.{Good}
 use Rattle.audits.proofs.Agreeing.{same-entry, entry-same, agrees-is}
 use Rattle.audits.proofs.Dumps.{length-all, numbers-past, Fitting, numbers-back}
@@ -56,7 +55,7 @@ lookup-agrees (a ∷ xs) entries page e =
 -- ---- the dump of good tables within the audit's sizes
 
 module _ (t : Tables) (good : goodTables (t .areas) (t .count) (length (t .pages)) ≡ true) (few-areas : t .count ≤ mostAreas) (few-pages : length (t .pages) ≤ mostPages)
-    (agree : (page : ℕ) → page < length (t .pages) → disagrees (rows (t .areas) (t .count)) (t .pages) page ≡ false) where
+    (entries-fit : Fitting entrySize (t .pages)) where
   is-good : GoodTables (t .areas) (t .count) (length (t .pages))
   is-good = tables-are (t .areas) (t .count) (length (t .pages)) good
 
@@ -82,9 +81,6 @@ module _ (t : Tables) (good : goodTables (t .areas) (t .count) (length (t .pages
       (words-fit (spaceOf (length (t .pages))) (omega arith) 0 (t .areas) (t .count)
       (sym (rows-decide (t .areas) (t .count) (length (t .pages)) (is-good .pages-few) (is-good .count-few)) ∙ good) k l)
 
-  entries-fit : Fitting entrySize (t .pages)
-  entries-fit k h = entry-fits (rows (t .areas) (t .count)) (t .pages) k (agree k h)
-
   abbrev front : List ℕ
   front = allBytes wordSize wide
 
@@ -94,15 +90,15 @@ module _ (t : Tables) (good : goodTables (t .areas) (t .count) (length (t .pages
   front-long : length front ≡ entriesAt (t .count)
   front-long = omega (arith, length-all wordSize wide, words-long)
 
-  -- what is read back
+  -- what was written is read back
   front-back : numbersAt (front ++ back) 0 wordSize (suc (suc (length words))) ≡ wide
   front-back = numbers-back wordSize wide back wide-fits
 
-  count-back : countIn (dumpOf t) ≡ t .count
+  pub count-back : countIn (dumpOf t) ≡ t .count
   unfolding countIn dumpOf numbersAt
   count-back = cc front-back
 
-  pages-back : pagesIn (dumpOf t) ≡ length (t .pages)
+  pub pages-back : pagesIn (dumpOf t) ≡ length (t .pages)
   unfolding pagesIn dumpOf numbersAt
   pages-back = cc front-back
 
@@ -110,11 +106,11 @@ module _ (t : Tables) (good : goodTables (t .areas) (t .count) (length (t .pages
   unfolding numbersAt
   rest-back = cc front-back
 
-  words-back : wordsIn (dumpOf t) ≡ words
+  pub words-back : wordsIn (dumpOf t) ≡ words
   unfolding wordsIn dumpOf
   words-back = rw count-back (rw words-long at rest-back)
 
-  entries-back : entriesIn (dumpOf t) ≡ t .pages
+  pub entries-back : entriesIn (dumpOf t) ≡ t .pages
   unfolding entriesIn dumpOf
   entries-back =
       let at : entriesAt (t .count) ≡ length front + 0 = omega (arith, front-long) in
@@ -125,9 +121,10 @@ module _ (t : Tables) (good : goodTables (t .areas) (t .count) (length (t .pages
   unfolding dumpOf
   long = length-append front back ∙ omega (arith, front-long, length-all entrySize (t .pages))
 
-  dumped : GoodDump (dumpOf t)
-  dumped =
-      record {
+  -- tables whose entries all agree are accepted
+  pub dump-accepted : ((page : ℕ) → page < length (t .pages) → disagrees (rows (t .areas) (t .count)) (t .pages) page ≡ false) → auditRule (dumpOf t) ≡ Good
+  dump-accepted agree =
+      audit-good (dumpOf t) .1 (record {
         sized = record {
           few-areas = rw count-back few-areas;
           few-pages = rw pages-back few-pages;
@@ -136,11 +133,7 @@ module _ (t : Tables) (good : goodTables (t .areas) (t .count) (length (t .pages
         good = rw (words-back, count-back, pages-back) (tables-taken (t .areas) (t .count) (length (t .pages)) good);
         agree = λ page h. rw (words-back, count-back, entries-back, rows-taken (t .areas) (t .count) room)
             (agrees-is (t .pages) page (rows (t .areas) (t .count)) (is-good .ordered) (agree page (rw pages-back at h)));
-      }
-
-  -- is accepted
-  pub dump-accepted : auditRule (dumpOf t) ≡ Good
-  dump-accepted = audit-good (dumpOf t) .1 dumped
+      })
 
 -- ---- after any calls from fresh
 
@@ -151,12 +144,16 @@ module _ (areaWords p : ℕ) (few-pages : p ≤ mostPages) (cs : List Call) (leg
   now : Kept areaWords p left (accepted (fresh areaWords p) cs)
   now = kept areaWords p (omega arith) cs legal
 
+  agree : (page : ℕ) → page < length (left .pages) → disagrees (rows (left .areas) (left .count)) (left .pages) page ≡ false
+  agree page h =
+      lookup-agrees (rows (left .areas) (left .count)) (left .pages) page
+      (rw (now .says page) (now .entries page (omega (arith, now .pages-long))))
+
   -- with at most 256 areas
   pub own-within : left .count ≤ mostAreas → auditRule (dumpOf left) ≡ Good
   own-within few =
       dump-accepted left (rw (now .pages-long) (now .good)) few (omega (arith, now .pages-long))
-      (λ page h. lookup-agrees (rows (left .areas) (left .count)) (left .pages) page
-      (rw (now .says page) (now .entries page (omega (arith, now .pages-long)))))
+      (λ page h. entry-fits (rows (left .areas) (left .count)) (left .pages) page (agree page h)) agree
 
   -- and there is never room for more
   pub own-accepted : auditRule (dumpOf left) ≡ Good

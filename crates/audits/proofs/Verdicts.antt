@@ -12,10 +12,10 @@ use Rattle.lists.proofs.Every.{by-test, lowest-fails}
 use Rattle.page_table.specs.Limits.{maxPages}
 use Rattle.area.specs.declared.Area.{Area as AreaOf}
 use Rattle.area_list.specs.Layout.{wordsPerArea, capacityOf, rows}
-use Rattle.area_list.specs.Good.{spaceOf, firstBad, goodTables}
+use Rattle.area_list.specs.Good.{spaceOf, firstBad}
 use Rattle.area_list.proofs.Goodness.{tables-are, good-before, bad-there, bad-only, first-decides}
 use Rattle.area_list.proofs.Ordered.{Ordered}
-use Rattle.audits.specs.Agree.{disagrees, firstWrong, Agrees}
+use Rattle.audits.specs.Agree.{disagrees, firstWrong}
 use Rattle.audits.specs.Dump.{wordSize, entrySize, headerSize, entriesAt, countIn, pagesIn, wordsIn, entriesIn}
 use Rattle.audits.specs.Audit.{tablesRule, sizedDump, Sized, auditRule}
 use Rattle.audits.specs.Says.{goodDumped, agreesAt, BreaksAt, DisagreesAt, GoodDump, Says}

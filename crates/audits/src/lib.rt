@@ -1,9 +1,9 @@
 // An audit for the service desk: whether a dump of both tables is good, and if not, what is the first thing wrong with it.
 //
-//     0       8   16                  16 + 32 * count
+//     0       8   16
 //    [ count | P | words of the areas | entries of the pages ]
 //
-// A dump is bytes; its numbers are little-endian, entries four bytes long and all others eight.
+// A dump is bytes; its numbers are little-endian, entries four bytes long and all others eight. `write` makes one.
 use area_list::WORDS;
 use area_list::area_at;
 use area_list::first_bad;
@@ -23,6 +23,8 @@ ghost use Rattle.audits.specs.Agree.{differs, unmapped, lowestIn, firstW
 ghost use Rattle.audits.specs.Audit.{tablesRule, sizedDump, Lent, auditRule};
 ghost use Rattle.audits.specs.Dump.{wordSize, entrySize, numbersAt};
 
+pub mod write;
+
 // The most areas and pages that a dump may have.
 const AREAS: usize = 256;
 
@@ -30,11 +32,11 @@ const PAGES: usize = 4096;
 // The words of the most areas.
 const AREA_WORDS: usize = AREAS * WORDS;
 // Bytes of a word and of an entry, and of count and P together.
-const WORD: usize = 8;
+pub const WORD: usize = 8;
 
-const ENTRY: usize = 4;
+pub const ENTRY: usize = 4;
 
-const HEADER: usize = 2 * WORD;
+pub const HEADER: usize = 2 * WORD;
 
 // What an audit finds.
 pub enum Verdict {
