@@ -9,10 +9,11 @@ use native.Mathlib.Numerals.{add-one}
 use lib.Dec.{ltb}
 use lib.ListN.{length, getD, take, drop, set}
 use lib.Seq.{length-take-le, drop-cons, take-suc, take-all}
-use borrow.Author.Tests.{lt-ltb, le-ltb}
+use borrow.Author.Tests.{lt-ltb, le-ltb, ltb-true, ltb-false}
+use Rattle.lists.proofs.Every.{by-test}
 use Rattle.lists.specs.Over.{over}
 use Rattle.lists.proofs.Over.{Rises, rise-begins, rise-goes-on, rise-ends, over-nothing}
-use Rattle.area.specs.Answer.{refuse, answer, reply}
+use Rattle.area.specs.Answer.{refuse, answer, Reply, reply}
 use Rattle.area.proofs.Answers.{applies, passes, reply-zero, reply-suc}
 use Rattle.area_list.specs.Layout.{wordsPerArea}
 use Rattle.area_list.specs.Good.{goodTables}
@@ -162,3 +163,32 @@ module _ (t : Tables) {a b : List ℕ} {q : ℕ} (x : Put a 0 (bytesOf wordSize 
           put-then (put-then (put-then x y) z) w .written
           ∙ ap (λ (l : List ℕ). over a 0 (l ++ allBytes entrySize (t .pages)))
           (append-assoc (bytesOf wordSize (t .count)) (bytesOf wordSize (length (t .pages))) (allBytes wordSize (take (wordsPerArea * t .count) (t .areas))))
+
+-- ---- what is known of a dump that was written
+
+module _ (t : Tables) (out : List ℕ) (n : ℕ) (after : List ℕ) (r : reply n after ≡ writeRule t out) (z : n ≡ 0) where
+  not-refused : (k : ℕ) → reply (suc k) out ≡ writeRule t out → ⊥
+  not-refused k e = omega (arith, z, ap (λ (x : Reply (List ℕ)). x .answer) (r ∙ sym e))
+
+  written-good : goodTables (t .areas) (t .count) (length (t .pages)) ≡ true
+  written-good =
+      by-test (goodTables (t .areas) (t .count) (length (t .pages))) (λ g. g) (λ g. absurd (not-refused 0 (dump-bad t out g)))
+
+  pub written-areas : t .count ≤ mostAreas
+  written-areas =
+      by-test (ltb mostAreas (t .count))
+      (λ p. absurd (not-refused 0 (dump-areas t out written-good (ltb-true mostAreas (t .count) p))))
+      (λ p. ltb-false mostAreas (t .count) p)
+
+  pub written-pages : length (t .pages) ≤ mostPages
+  written-pages =
+      by-test (ltb mostPages (length (t .pages)))
+      (λ p. absurd (not-refused 0 (dump-pages t out written-good written-areas (ltb-true mostPages (length (t .pages)) p))))
+      (λ p. ltb-false mostPages (length (t .pages)) p)
+
+  pub written-room : dumpLength (t .count) (length (t .pages)) ≤ length out
+  written-room =
+      by-test (ltb (length out) (dumpLength (t .count) (length (t .pages))))
+      (λ p. absurd
+      (not-refused 5 (dump-short t out written-good written-areas written-pages (ltb-true (length out) (dumpLength (t .count) (length (t .pages))) p))))
+      (λ p. ltb-false (length out) (dumpLength (t .count) (length (t .pages))) p)

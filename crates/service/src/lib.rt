@@ -1,8 +1,16 @@
 // The service desk's programs: the audit of a dump, and the dump of what requests leave. What matters is in the crate audits.
+use area_list::WORDS;
+use audits::ENTRY;
+use audits::HEADER;
 use audits::Verdict;
+use audits::WORD;
 use audits::audit;
+use audits::write::dump;
 use libc::STDIN_FILENO;
 use libc::STDOUT_FILENO;
+use stream::AREA_WORDS;
+use stream::PAGES;
+use stream::take_input;
 
 // The longest legal dump has 24,592 bytes; a byte more shows that this one is longer, and the rest is not read.
 const ENOUGH: usize = 24593;
@@ -39,4 +47,26 @@ pub fn audit_input() {
         return;
     }
     say(audit(&bytes[..n]));
+}
+
+// The dump program: requests from standard input, and to standard output the dump of the tables that they leave.
+pub fn dump_input() {
+    let mut areas = [0u64; AREA_WORDS];
+    let mut pages = [0u32; PAGES];
+    let end = take_input(&mut areas, &mut pages, false);
+    if !end.whole {
+        return;
+    }
+    write_dump(&areas, &pages, end.count);
+}
+
+// Writes the dump of tables that are not refused.
+fn write_dump(areas: &[u64], pages: &[u32], count: usize) {
+    let mut out = io::large_buffer();
+    let answer = dump(areas, pages, count, &mut out);
+    if !answer.accepted() {
+        return;
+    }
+    let length = HEADER + WORD * (WORDS * count) + ENTRY * pages.len();
+    io::write_all(STDOUT_FILENO, &out[..length]);
 }

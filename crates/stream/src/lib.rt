@@ -14,9 +14,9 @@ ghost use Rattle.requests.specs.Request.{recordSize};
 // Bytes read at once. The lines of so many fit an output block of 65,536 bytes.
 const BLOCK: usize = 32768;
 // The tables of the record program: 256 areas and 4,096 pages.
-const AREA_WORDS: usize = 256 * WORDS;
+pub const AREA_WORDS: usize = 256 * WORDS;
 
-const PAGES: usize = 4096;
+pub const PAGES: usize = 4096;
 
 // Where the reading stands: the count, the bytes of a record that are held, whether there may be more input, and whether all
 // of it could be read and answered so far.
