@@ -157,3 +157,7 @@ audit-page bytes n = audit-says bytes (Page n)
 -- no dump has two verdicts whose facts hold
 pub one-verdict : (bytes : List ℕ) (v w : Verdict) → Says bytes v → Says bytes w → v ≡ w
 one-verdict bytes v w a b = sym (said bytes v a) ∙ said bytes w b
+
+-- and the promise of `audit` admits no second
+pub audit-unique : (bytes : List ℕ) (v w : Verdict) → v ≡ auditRule bytes → w ≡ auditRule bytes → v ≡ w
+audit-unique bytes v w p q = p ∙ sym q

@@ -13,8 +13,9 @@ use borrow.Author.Tests.{lt-ltb, le-ltb, ltb-true, ltb-false}
 use Rattle.lists.proofs.Every.{by-test}
 use Rattle.lists.specs.Over.{over}
 use Rattle.lists.proofs.Over.{Rises, rise-begins, rise-goes-on, rise-ends, over-nothing}
-use Rattle.area.specs.Answer.{refuse, answer, Reply, reply}
-use Rattle.area.proofs.Answers.{applies, passes, reply-zero, reply-suc}
+use Rattle.area.specs.Answer.{number, refuse, answer, Reply, reply}
+use Rattle.area.specs.declared.Answer.{Answer}
+use Rattle.area.proofs.Answers.{applies, passes, reply-zero, reply-suc, OneOutcome, one-outcome}
 use Rattle.area_list.specs.Layout.{wordsPerArea}
 use Rattle.area_list.specs.Good.{goodTables}
 use Rattle.set.specs.Change.{Tables}
@@ -138,6 +139,11 @@ module _ (t : Tables) (out : List ℕ) where
             ap (reply 0) e
             ∙ reply-zero _ _ _
             (room-decides ∙ passes 6 (ltb (length out) (dumpLength (t .count) (length (t .pages)))) [] (le-ltb (length out) (dumpLength (t .count) (length (t .pages))) h))
+
+-- no second outcome
+pub dump-unique : (t : Tables) (out : List ℕ) (a b : Answer) (v w : List ℕ) → reply (number a) v ≡ writeRule t out → reply (number b) w ≡ writeRule t out
+    → OneOutcome a b v w
+dump-unique t out a b v w p q = one-outcome a b v w (p ∙ sym q)
 
 -- ---- what the four parts make together
 

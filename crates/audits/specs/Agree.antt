@@ -10,11 +10,11 @@ use Rattle.lists.specs.Every.{lowestOf}
 use Rattle.area.specs.Area.{holds, areaEntry, nothing}
 use Rattle.area.specs.declared.Area.{Area}
 
--- the page's entry is another than it should be
+-- the page's entry is another than what is said of the page
 unfoldable pub differs : (ℕ → ℕ) → List ℕ → ℕ → Bool
 differs says entries page = not (eqb (getD entries page 0) (says page))
 
--- what a page says that no area holds
+-- what the entry should be where no area lies
 abbrev pub unmapped : ℕ → ℕ
 unmapped page = 0
 

@@ -57,5 +57,6 @@ pub record Lent (bytes areas pages : List ℕ) (count : ℕ) : Type 0 where
   pub areas-long : length areas ≡ wordsPerArea * count
   pub pages-long : length pages ≡ pagesIn bytes
 
+-- the verdict on a dump
 unfoldable pub auditRule : List ℕ → Verdict
 auditRule bytes = cond (sizedDump bytes) (tablesRule (wordsIn bytes) (entriesIn bytes) (countIn bytes)) Table

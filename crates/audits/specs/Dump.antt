@@ -31,6 +31,7 @@ entriesAt count = headerSize + wordSize * (wordsPerArea * count)
 abbrev pub dumpLength : ℕ → ℕ → ℕ
 dumpLength count p = entriesAt count + entrySize * p
 
+-- "count and P as u64, the area words, then the page entries"
 unfoldable pub countIn : List ℕ → ℕ
 countIn bytes = numberAt bytes 0 wordSize
 
@@ -45,11 +46,12 @@ entriesIn bytes = numbersAt bytes (entriesAt (countIn bytes)) entrySize (pagesIn
 
 -- ---- writing
 
--- the last bytes of a number, the lowest first
+-- so many bytes of a number, the lowest first
 unfoldable pub bytesOf : ℕ → ℕ → List ℕ
 bytesOf zero n = []
 bytesOf (suc size) n = n % 256 ∷ bytesOf size (n / 256)
 
+-- numbers one after the other
 unfoldable pub allBytes : ℕ → List ℕ → List ℕ
 allBytes size [] = []
 allBytes size (n ∷ ns) = bytesOf size n ++ allBytes size ns
