@@ -3,15 +3,13 @@
 use Prim.Native.Nat.{ℕ, zero, suc, _+_, _-_, _*_, _^_, _≤_, _<_, max}
 use mathlib.Core.Path.{_≡_, refl, sym, ap, _∙_}
 use mathlib.Core.Bool.{true}
-use mathlib.Core.List.{List, [], _∷_, _++_, append-assoc, append-nil}
+use mathlib.Core.List.{List, [], _∷_, _++_, append-assoc}
 use native.Mathlib.Omega.{arith}
 use native.Mathlib.Decide.{ℕ-discrete}
 use native.Mathlib.Nat.{sub-zero}
-use lib.ListN.{length, getD, take, drop, set, replicate, length-append, length-take, length-drop, length-replicate, take-append-drop, replicate-append-replicate}
+use lib.ListN.{length, getD, take, drop, replicate, length-append, length-take, length-drop, length-replicate, take-append-drop, replicate-append-replicate}
 use lib.Seq.{take-nil, drop-nil, take-take, drop-drop, take-add, take-append-add, drop-append-add, length-take-le, drop-at}
-use Rattle.lists.specs.Over.{over}
 use Rattle.lists.proofs.Every.{and-both}
-use Rattle.lists.proofs.Over.{over-nothing, over-one, over-next, over-right, over-three}
 use Rattle.page_table.specs.Limits.{maxPages}
 use Rattle.page_table.specs.declared.Backend.{Backend}
 use Rattle.page_table.specs.declared.Backend.the-variants.{Lazy, Linear}
@@ -21,9 +19,8 @@ use Rattle.area.proofs.Areas.{is-good}
 use Rattle.area_list.specs.Layout.{wordsPerArea, capacityOf, legalWord, backendOf, wordOf, rowWith, rowOf, rowAt, areaOf, LegalRow, wordsOf, rows}
 use Rattle.area_list.specs.Good.{spaceOf, goodRow, goodRows, goodTables}
 use Rattle.area_list.specs.Position.{SortedRows}
-use Rattle.area_list.specs.Store.{Storable, flat, store, partsOf, spliced}
+use Rattle.area_list.specs.Store.{Storable, flat, store, spliced}
 use Rattle.area_list.specs.declared.Row.{Row}
-use Rattle.area_list.specs.declared.slots.Parts.{Parts}
 use Rattle.area_list.proofs.Ordered.{Ordered, none-left, one-more}
 use Rattle.area_list.proofs.Rows.{lazy-legal, linear-legal, linear-word, lazy-backend, linear-backend, slot-under, length-rows, rows-at}
 use Rattle.area_list.proofs.Goodness.{area-decides, rows-decide}
@@ -234,102 +231,6 @@ store-again list list′ ws count =
       zeros-in-all count old new,
     )
 
--- ---- the writes that put a list in
-
--- the four words of an area
-pub put-words : (ws : List ℕ) (p : ℕ) (a : Area) (w : ℕ) → p + 4 ≤ length ws → w ≡ wordOf (a .backend)
-    → set (set (set (set ws p (a .start)) (p + 1) (a .end)) (p + 2) (a .flags)) (p + 3) w ≡ over ws p (wordsOf a)
-unfolding wordsOf
-put-words ws p a w room e =
-    rw (
-      over-one ws p (a .start) (omega arith),
-      over-next ws p (a .start ∷ []) (p + 1) (a .end) (omega arith) refl,
-      over-next ws p (a .start ∷ a .end ∷ []) (p + 2) (a .flags) (omega arith) refl,
-      over-next ws p (a .start ∷ a .end ∷ a .flags ∷ []) (p + 3) w (omega arith) refl,
-      e,
-    )
-
--- one area more after those that are there
-put-next : (ws : List ℕ) (slot : ℕ) (xs : List Area) (a : Area) (at : ℕ) {ws₁ ws₂ : List ℕ} → wordsPerArea * slot ≤ length ws → at ≡ slot + length xs
-    → ws₁ ≡ over ws (wordsPerArea * slot) (flat xs) → ws₂ ≡ over ws₁ (wordsPerArea * at) (wordsOf a)
-    → ws₂ ≡ over ws (wordsPerArea * slot) (flat (xs ++ (a ∷ [])))
-unfolding flat
-put-next ws slot xs a at room e p q =
-    let place : 4 * at ≡ 4 * slot + length (flat xs) = omega (arith, length-flat xs) in
-    q ∙ rw (p, place, over-right ws (4 * slot) (flat xs) (wordsOf a) room, flat-append xs (a ∷ []), append-nil (wordsOf a))
-
--- the parts, by their number
-module _ (ws : List ℕ) (slot : ℕ) (parts : Parts) (room : wordsPerArea * (slot + parts .number) ≤ length ws) where
-  pub put-none : parts .number ≡ 0 → ws ≡ over ws (wordsPerArea * slot) (flat (partsOf parts))
-  unfolding flat
-  put-none e = rw e (sym (over-nothing ws (wordsPerArea * slot)))
-
-  first-put : {ws₁ : List ℕ} → ws₁ ≡ over ws (wordsPerArea * slot) (wordsOf (parts .first)) → ws₁ ≡ over ws (wordsPerArea * slot) (flat (parts .first ∷ []))
-  unfolding flat
-  first-put p = rw (append-nil (wordsOf (parts .first))) p
-
-  pub put-one : {ws₁ : List ℕ} → parts .number ≡ 1 → ws₁ ≡ over ws (wordsPerArea * slot) (wordsOf (parts .first))
-      → ws₁ ≡ over ws (wordsPerArea * slot) (flat (partsOf parts))
-  put-one e p = rw e (first-put p)
-
-  second-put : {ws₁ ws₂ : List ℕ} → ws₁ ≡ over ws (wordsPerArea * slot) (wordsOf (parts .first)) → ws₂ ≡ over ws₁ (wordsPerArea * (slot + 1)) (wordsOf (parts .second))
-      → ws₂ ≡ over ws (wordsPerArea * slot) (flat (parts .first ∷ parts .second ∷ []))
-  second-put p q = put-next ws slot (parts .first ∷ []) (parts .second) (slot + 1) (omega arith) refl (first-put p) q
-
-  pub put-two : {ws₁ ws₂ : List ℕ} → parts .number ≡ 2
-      → ws₁ ≡ over ws (wordsPerArea * slot) (wordsOf (parts .first)) → ws₂ ≡ over ws₁ (wordsPerArea * (slot + 1)) (wordsOf (parts .second))
-      → ws₂ ≡ over ws (wordsPerArea * slot) (flat (partsOf parts))
-  put-two e p q = rw e (second-put p q)
-
-  pub put-three : {ws₁ ws₂ ws₃ : List ℕ} → parts .number ≡ 3
-      → ws₁ ≡ over ws (wordsPerArea * slot) (wordsOf (parts .first)) → ws₂ ≡ over ws₁ (wordsPerArea * (slot + 1)) (wordsOf (parts .second))
-      → ws₃ ≡ over ws₂ (wordsPerArea * (slot + 2)) (wordsOf (parts .third)) → ws₃ ≡ over ws (wordsPerArea * slot) (flat (partsOf parts))
-  put-three e p q r = rw e (put-next ws slot (parts .first ∷ parts .second ∷ []) (parts .third) (slot + 2) (omega arith) refl (second-put p q) r)
-
--- how many they are
-pub length-parts : (parts : Parts) → parts .number ≤ 3 → length (partsOf parts) ≡ parts .number
-length-parts parts h = length-take-le (parts .number) (parts .first ∷ parts .second ∷ parts .third ∷ []) h
-
 pub length-spliced : (list : List Area) (low high : ℕ) (parts : List Area) → low ≤ high → high ≤ length list
     → length (spliced list low high parts) ≡ low + length parts + (length list - high)
 length-spliced list low high parts ordered inside = simp (length-append, length-take, length-drop) (omega arith)
-
--- the three writes of a splice: the tail, the parts and the zeros
-module _ {ws : List ℕ} {count : ℕ} (s : SortedRows ws count) (low high : ℕ) (parts : List Area) (ordered : low ≤ high) (inside : high ≤ count) where
-  flat-spliced : flat (spliced (rows ws count) low high parts)
-      ≡ take (wordsPerArea * low) ws ++ (flat parts ++ take (wordsPerArea * (count - high)) (drop (wordsPerArea * high) ws))
-  flat-spliced =
-      rw (
-        flat-append (take low (rows ws count)) (parts ++ drop high (rows ws count)),
-        flat-append parts (drop high (rows ws count)),
-        flat-rows-before s low (omega arith),
-        flat-rows-from s high inside,
-      )
-
-  module _ (next after : ℕ) (n : next ≡ low + length parts) (m : after ≡ next + (count - high)) (room : wordsPerArea * after ≤ length ws) where
-    abbrev tail : List ℕ
-    tail = take (wordsPerArea * (count - high)) (drop (wordsPerArea * high) ws)
-
-    abbrev zeros : List ℕ
-    zeros = replicate (wordsPerArea * count - wordsPerArea * after) 0
-
-    length-tail : length tail ≡ 4 * (count - high)
-    length-tail = length-take-le (4 * (count - high)) (drop (4 * high) ws) (omega (arith, s .room, length-drop (4 * high) ws))
-
-    count-after : length (spliced (rows ws count) low high parts) ≡ after
-    count-after =
-        length-spliced (rows ws count) low high parts ordered (omega (arith, length-rows ws count)) ∙ rw (length-rows ws count) (omega arith)
-
-    kept-after : 4 * low + length ((flat parts ++ tail) ++ zeros) ≡ 4 * max count after
-    kept-after = simp (length-append, length-flat, length-tail, length-replicate) (omega arith)
-
-    is-store : over ws (4 * low) ((flat parts ++ tail) ++ zeros) ≡ store (spliced (rows ws count) low high parts) ws count
-    unfolding over store
-    is-store =
-        let freed : 4 * count - 4 * after ≡ 4 * (count - after) = omega arith in
-        rw (kept-after, freed, count-after, flat-spliced) (simp append-assoc)
-
-    pub splice-writes : {ws₁ ws₂ ws₃ : List ℕ} → ws₁ ≡ over ws (wordsPerArea * next) tail → ws₂ ≡ over ws₁ (wordsPerArea * low) (flat parts)
-        → ws₃ ≡ over ws₂ (wordsPerArea * after) zeros → ws₃ ≡ store (spliced (rows ws count) low high parts) ws count
-    splice-writes p q r =
-        r ∙ rw (q, p) (over-three ws (4 * low) (4 * next) (4 * after) (flat parts) tail zeros (omega (arith, length-flat parts)) (omega (arith, length-tail)) room ∙ is-store)

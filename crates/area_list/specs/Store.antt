@@ -1,13 +1,12 @@
 -- How a new list of areas is written over the words (01: "Slots between a smaller new count and the old one become 0; slots at or
 -- past both counts keep their words"). Laws: `proofs/Stores.antt`. Assumes nothing.
-use Prim.Native.Nat.{ℕ, _+_, _-_, _*_, _≤_, max}
+use Prim.Native.Nat.{ℕ, _+_, _-_, _*_, max}
 use mathlib.Core.Path.{_≡_}
 use mathlib.Core.Bool.{true}
 use mathlib.Core.List.{List, [], _∷_, _++_}
 use lib.ListN.{length, take, drop, replicate}
 use Rattle.area.specs.declared.Area.{Area}
-use Rattle.area_list.specs.Layout.{wordsPerArea, capacityOf, legalWord, wordOf, wordsOf}
-use Rattle.area_list.specs.declared.slots.Parts.{Parts}
+use Rattle.area_list.specs.Layout.{wordsPerArea, legalWord, wordOf, wordsOf}
 
 -- an area whose backend has a legal word: it can be stored, and good tables can have it
 pub record Storable (a : Area) : Type 0 where
@@ -24,17 +23,6 @@ store list ws count =
     flat list
     ++ (replicate (wordsPerArea * (count - length list)) 0 ++ drop (wordsPerArea * max count (length list)) ws)
 
--- the areas that a splice puts in: the first so many of three
-abbrev pub partsOf : Parts → List Area
-partsOf p = take (p .number) (p .first ∷ p .second ∷ p .third ∷ [])
-
 -- the list after slots low up to high gave way to other areas
 abbrev pub spliced : List Area → ℕ → ℕ → List Area → List Area
 spliced list low high parts = take low list ++ (parts ++ drop high list)
-
--- a run of slots that may give way to so many areas: the new list fits the capacity
-pub record Gap (words count low high number : ℕ) : Type 0 where
-  pub ordered : low ≤ high
-  pub inside : high ≤ count
-  pub few : number ≤ 3
-  pub fits : low + number + (count - high) ≤ capacityOf words

@@ -6,7 +6,7 @@
 // A dump is bytes; its numbers are little-endian, entries four bytes long and all others eight. `write` makes one.
 use area_list::WORDS;
 use area_list::area_at;
-use area_list::first_bad;
+use good_tables::first_bad;
 use page_table::Backend;
 use page_table::PAGE;
 use requests::word32;

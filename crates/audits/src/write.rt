@@ -6,7 +6,7 @@ use crate::PAGES;
 use crate::WORD;
 use area::Answer;
 use area_list::WORDS;
-use area_list::good;
+use good_tables::good;
 ghost use mathlib.Core.Path.{_≡_};
 ghost use Prim.Native.Nat.{_+_, _*_, _≤_};
 ghost use lib.ListN.{length};

@@ -9,8 +9,9 @@ use native.Mathlib.Nat.{add-zero}
 use lib.ListN.{length, getD, drop, drop-of-length-le}
 use Rattle.area.specs.Area.{part, nothing}
 use Rattle.area.specs.declared.Area.{Area}
-use Rattle.area_list.specs.Store.{partsOf, spliced}
-use Rattle.area_list.specs.declared.slots.Parts.{Parts}
+use Rattle.area_list.specs.Store.{spliced}
+use Rattle.slots.specs.Splice.{partsOf}
+use Rattle.slots.specs.declared.Parts.{Parts}
 use Rattle.area_list.specs.Position.{firstWhere, endsPast}
 use Rattle.area_list.proofs.Ordered.{Ordered}
 use Rattle.area_list.proofs.Positions.{first, ended, not-ended}

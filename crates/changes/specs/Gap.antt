@@ -6,8 +6,8 @@ use mathlib.Core.Bool.{cond}
 use mathlib.Core.List.{List, _++_}
 use lib.ListN.{length, drop}
 use Rattle.area.specs.declared.Area.{Area}
-use Rattle.area_list.specs.Store.{partsOf}
-use Rattle.area_list.specs.declared.slots.Parts.{Parts}
+use Rattle.slots.specs.Splice.{partsOf}
+use Rattle.slots.specs.declared.Parts.{Parts}
 use Rattle.area_list.specs.Position.{firstWhere, endsPast}
 use Rattle.effects.specs.Lists.{piece}
 use Rattle.effects.proofs.Cutting.{leftOf, trimmed}

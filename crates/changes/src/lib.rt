@@ -1,12 +1,12 @@
 // The work of the calls that change the tables, for good tables and arguments that have been tested: which slots a range
 // cuts, and what becomes of the entries of the pages in it.
 use area::Area;
-use area_list::any_overlap;
 use area_list::area_at;
-use area_list::first_ending_past;
-use area_list::slots::Parts;
 use page_table::PAGE;
 use page_table::wipe;
+use positions::any_overlap;
+use positions::first_ending_past;
+use slots::Parts;
 ghost use mathlib.Core.Path.{_≡_};
 ghost use mathlib.Core.Bool.{true, false, not, _&&_};
 ghost use Prim.Native.Nat.{min, max, _<_};

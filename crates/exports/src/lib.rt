@@ -3,7 +3,7 @@
 //
 // Each contract equates everything that a caller sees with the call's rule in the crate set, so no second outcome meets it
 // (`one-reply`, proofs/Numbers.antt).
-use area_list::slots::word_of;
+use area_list::word_of;
 use page_table::Backend;
 use page_table::PAGE;
 ghost use mathlib.Core.Path.{_≡_};

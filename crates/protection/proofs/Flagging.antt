@@ -16,7 +16,8 @@ use Rattle.area.specs.declared.Area.{Area}
 use Rattle.area_list.specs.Layout.{capacityOf, rows}
 use Rattle.area_list.specs.Good.{goodTables}
 use Rattle.area_list.specs.Position.{firstWhere, endsPast}
-use Rattle.area_list.specs.Store.{Gap, store, spliced}
+use Rattle.area_list.specs.Store.{store, spliced}
+use Rattle.slots.specs.Splice.{Gap}
 use Rattle.area_list.proofs.Ordered.{Ordered, one-more, ordered-from}
 use Rattle.area_list.proofs.Rows.{length-rows}
 use Rattle.area_list.proofs.Positions.{sorted}

@@ -14,7 +14,8 @@ use Rattle.area.specs.declared.Area.{Area}
 use Rattle.area_list.specs.Layout.{wordsPerArea, capacityOf, rows}
 use Rattle.area_list.specs.Good.{spaceOf, goodTables}
 use Rattle.area_list.specs.Position.{firstWhere}
-use Rattle.area_list.specs.Store.{Gap, store, spliced}
+use Rattle.area_list.specs.Store.{store, spliced}
+use Rattle.slots.specs.Splice.{Gap}
 use Rattle.area_list.proofs.Ordered.{Ordered, none-left, one-more}
 use Rattle.area_list.proofs.Rows.{length-rows}
 use Rattle.area_list.proofs.Goodness.{GoodTables, tables-are, count-fits}

@@ -2,14 +2,14 @@
 // entries of the pages in its range, and how it splits and flags the areas of the list.
 use area::Area;
 use area_list::area_at;
-use area_list::first_ending_past;
-use area_list::slots::Parts;
-use area_list::slots::splice;
 use changes::earlier;
 use changes::later;
 use page_table::PAGE;
 use page_table::entry::FLAGS;
 use page_table::reflag;
+use positions::first_ending_past;
+use slots::Parts;
+use slots::splice;
 ghost use mathlib.Core.Path.{_≡_};
 ghost use mathlib.Core.Bool.{true};
 ghost use mathlib.Core.List.{map};

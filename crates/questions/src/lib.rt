@@ -2,11 +2,11 @@
 // tables are good before anything else, and answers with document 01's numbers in 01's order.
 use area::Answer;
 use area::Area;
-use area_list::any_overlap;
 use area_list::area_at;
-use area_list::first_holding;
-use area_list::good;
+use good_tables::good;
 use page_table::PAGE;
+use positions::any_overlap;
+use positions::first_holding;
 use search::Free;
 use search::lowest_free;
 use search::power_of_two;

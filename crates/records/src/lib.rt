@@ -1,7 +1,7 @@
 // The record program's work, on bytes in lent buffers: requests from records, calls of the set, lines of the answers.
 use area::Answer;
 use area_list::area_at;
-use area_list::good;
+use good_tables::good;
 use lines::LONGEST;
 use lines::Line;
 use lines::put_line;

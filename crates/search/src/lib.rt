@@ -1,7 +1,7 @@
 // The search for free room: the lowest address that fits, found in one pass over the areas.
 use area_list::area_at;
-use area_list::first_ending_past;
 use page_table::PAGE;
+use positions::first_ending_past;
 ghost use mathlib.Core.Path.{_≡_};
 ghost use mathlib.Core.Bool.{true};
 ghost use Prim.Native.Nat.{_+_, _^_, _<_};

@@ -20,12 +20,14 @@ use Rattle.area.proofs.Answers.{reply-refused, reply-zero, reply-suc}
 use Rattle.area_list.specs.Layout.{maxAreas, capacityOf, rows}
 use Rattle.area_list.specs.Good.{spaceOf, goodTables}
 use Rattle.area_list.specs.Meet.{sharesAny}
-use Rattle.area_list.specs.Store.{store, partsOf, spliced}
-use Rattle.area_list.specs.declared.slots.Parts.{Parts}
+use Rattle.area_list.specs.Store.{store, spliced}
+use Rattle.slots.specs.Splice.{partsOf}
+use Rattle.slots.specs.declared.Parts.{Parts}
 use Rattle.area_list.proofs.Rows.{length-rows}
 use Rattle.area_list.proofs.Goodness.{GoodTables, tables-are}
 use Rattle.area_list.proofs.Positions.{sorted}
-use Rattle.area_list.proofs.Stores.{store-same, length-parts, length-spliced}
+use Rattle.area_list.proofs.Stores.{store-same, length-spliced}
+use Rattle.slots.proofs.Writes.{length-parts}
 use Rattle.effects.specs.Pages.{onAreas, wipesArea, cutPages, mapPages, protectsArea, protectPages}
 use Rattle.effects.proofs.Cutting.{cut-empty}
 use Rattle.effects.proofs.Protecting.{protect-empty}
