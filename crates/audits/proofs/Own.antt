@@ -15,8 +15,8 @@ use Rattle.area_list.specs.Layout.{wordsPerArea, capacityOf, rows}
 use Rattle.area_list.specs.Good.{spaceOf, goodTables}
 use Rattle.area_list.proofs.Goodness.{GoodTables, tables-are, rows-decide, count-fits, tables-taken, words-fit}
 use Rattle.area_list.proofs.Rows.{rows-taken}
-use Rattle.set.specs.Change.{Tables}
-use Rattle.set.specs.Calls.{Call}
+use Rattle.rules.specs.Change.{Tables}
+use Rattle.rules.specs.Calls.{Call}
 use Rattle.history.specs.Fate.{entryFor}
 use Rattle.history.specs.Legal.{legalCalls}
 use Rattle.history.specs.Runs.{fresh, after, accepted}

@@ -18,7 +18,7 @@ use Rattle.area.specs.declared.Answer.{Answer}
 use Rattle.area.proofs.Answers.{applies, passes, reply-zero, reply-suc, OneOutcome, one-outcome}
 use Rattle.area_list.specs.Layout.{wordsPerArea}
 use Rattle.area_list.specs.Good.{goodTables}
-use Rattle.set.specs.Change.{Tables}
+use Rattle.rules.specs.Change.{Tables}
 use Rattle.lines.specs.Line.{Put}
 use Rattle.lines.proofs.Lines.{puts, put-then}
 use Rattle.audits.specs.Audit.{mostAreas, mostPages}

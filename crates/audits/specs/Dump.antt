@@ -5,7 +5,7 @@ use mathlib.Core.List.{List, [], _∷_, _++_}
 use lib.ListN.{length, take}
 use Rattle.area_list.specs.Layout.{wordsPerArea}
 use Rattle.requests.specs.Request.{numberAt}
-use Rattle.set.specs.Change.{Tables}
+use Rattle.rules.specs.Change.{Tables}
 
 -- bytes of a word, of an entry, and of count and P together
 abbrev pub wordSize : ℕ

@@ -8,7 +8,7 @@ use lib.ListN.{length}
 use Rattle.lists.specs.Over.{over}
 use Rattle.area.specs.Answer.{Test, refuse, answer, Reply, replyBy}
 use Rattle.area_list.specs.Good.{goodTables}
-use Rattle.set.specs.Change.{Tables}
+use Rattle.rules.specs.Change.{Tables}
 use Rattle.audits.specs.Audit.{mostAreas, mostPages}
 use Rattle.audits.specs.Dump.{dumpLength, dumpOf}
 

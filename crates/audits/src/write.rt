@@ -14,7 +14,7 @@ ghost use Rattle.lists.specs.Over.{over};
 ghost use Rattle.area.specs.Answer.{number, reply};
 ghost use Rattle.area_list.specs.Layout.{wordsPerArea};
 ghost use Rattle.lines.specs.Line.{Put};
-ghost use Rattle.set.specs.Change.{tables};
+ghost use Rattle.rules.specs.Change.{tables};
 ghost use Rattle.audits.specs.Dump.{wordSize, entrySize, dumpLength, bytesOf, allBytes, dumpOf};
 ghost use Rattle.audits.specs.Write.{writeRule};
 

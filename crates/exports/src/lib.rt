@@ -10,7 +10,7 @@ ghost use mathlib.Core.Path.{_≡_};
 ghost use mathlib.Core.List.{[], _∷_};
 ghost use Rattle.area.specs.Answer.{reply};
 ghost use Rattle.questions.specs.Question.{lenRule, emptyRule, overlapsRule, findRule, freeAreaRule};
-ghost use Rattle.set.specs.Change.{tables, unmapRule, clearRule, mapRule, protectRule};
+ghost use Rattle.rules.specs.Change.{tables, unmapRule, clearRule, mapRule, protectRule};
 ghost use Rattle.exports.specs.Numbers.{inNumbers, yesNumber, areaNumbers, partOf, backendFrom, isYes};
 
 // The number of areas.
@@ -173,7 +173,7 @@ pub extern "C" fn memory_set_map(
         ≡ mapRule (now (areas .entry)) (now (pages .entry)) (now (count .entry)) start size flags (backendFrom linear delta) (isYes replace) ⌝ }
 {
     let backend = backend_from(linear, delta);
-    let mapped = set::map(
+    let mapped = map::map(
         areas,
         pages,
         *count,
@@ -200,7 +200,7 @@ pub extern "C" fn memory_set_unmap(
     ensures { λ r. ⌜ reply r (tables (now (areas .exit)) (now (pages .exit)) (now (count .exit)))
         ≡ unmapRule (now (areas .entry)) (now (pages .entry)) (now (count .entry)) start size ⌝ }
 {
-    let unmapped = set::unmap(areas, pages, *count, start, size);
+    let unmapped = unmap::unmap(areas, pages, *count, start, size);
     *count = unmapped.count;
     let answer = unmapped.answer;
     answer.number()
@@ -212,7 +212,7 @@ pub extern "C" fn memory_set_clear(areas: &mut [u64], pages: &mut [u32], count: 
     ensures { λ r. ⌜ reply r (tables (now (areas .exit)) (now (pages .exit)) (now (count .exit)))
         ≡ clearRule (now (areas .entry)) (now (pages .entry)) (now (count .entry)) ⌝ }
 {
-    let cleared = set::clear(areas, pages, *count);
+    let cleared = unmap::clear(areas, pages, *count);
     *count = cleared.count;
     let answer = cleared.answer;
     answer.number()
@@ -232,7 +232,7 @@ pub extern "C" fn memory_set_protect(
     ensures { λ r. ⌜ reply r (tables (now (areas .exit)) (now (pages .exit)) (now (count .exit)))
         ≡ protectRule (now (areas .entry)) (now (pages .entry)) (now (count .entry)) start size set clear ⌝ }
 {
-    let flagged = set::protect(areas, pages, *count, start, size, set, clear);
+    let flagged = protect::protect(areas, pages, *count, start, size, set, clear);
     *count = flagged.count;
     let answer = flagged.answer;
     answer.number()

@@ -18,7 +18,7 @@ use Rattle.area.proofs.Areas.{Good}
 use Rattle.area_list.specs.Layout.{capacityOf}
 use Rattle.area_list.specs.Good.{spaceOf, goodTables}
 use Rattle.questions.specs.Tests.{rangeTests}
-use Rattle.set.specs.Change.{unmapList, unmapTests, mapped, mapList, mapTests, protectList, protectTests}
+use Rattle.rules.specs.Change.{unmapList, unmapTests, mapped, mapList, mapTests, protectList, protectTests}
 use Rattle.questions.proofs.Answering.{Refuses, no-test, one-test, Range}
 
 -- the tests of a list by number; past its end none applies

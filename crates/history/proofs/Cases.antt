@@ -9,8 +9,8 @@ use Rattle.page_table.specs.Cases.{entryCases}
 use Rattle.page_table.proofs.Cases.{entry-cases}
 use Rattle.search.specs.Cases.{searchCases}
 use Rattle.search.proofs.Cases.{search-cases}
-use Rattle.set.specs.Cases.{changeCases}
-use Rattle.set.proofs.Cases.{change-cases}
+use Rattle.rules.specs.Cases.{changeCases}
+use Rattle.rules.proofs.Cases.{change-cases}
 use Rattle.history.specs.Cases.{cases}
 
 agree-append : (xs ys : List Case) → agree xs ≡ true → agree ys ≡ true → agree (xs ++ ys) ≡ true

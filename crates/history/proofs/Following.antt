@@ -32,9 +32,9 @@ use Rattle.effects.specs.Pages.{cutPages, mapPages, protectPages}
 use Rattle.effects.proofs.Cutting.{cut-ordered, cut-clear, insert-ordered}
 use Rattle.effects.proofs.Protecting.{AllStorable, protect-ordered, protect-storable}
 use Rattle.questions.specs.Tests.{tablesAnswer}
-use Rattle.set.specs.Change.{Tables, listed, unmapTests, unmapRule, clearRule, mapped, mapTests, mapRule, protectTests, protectRule}
-use Rattle.set.specs.Calls.{Call, lenCall, emptyCall, overlapsCall, findCall, entriesCall, searchCall, mapCall, unmapCall, clearCall, protectCall, called}
-use Rattle.set.proofs.Demands.{all-or-nothing}
+use Rattle.rules.specs.Change.{Tables, listed, unmapTests, unmapRule, clearRule, mapped, mapTests, mapRule, protectTests, protectRule}
+use Rattle.rules.specs.Calls.{Call, lenCall, emptyCall, overlapsCall, findCall, entriesCall, searchCall, mapCall, unmapCall, clearCall, protectCall, called}
+use Rattle.rules.proofs.Demands.{all-or-nothing}
 use Rattle.history.specs.Fate.{unmapped, reflagged, covers, fateAfter, fate, entryFor}
 use Rattle.history.specs.Legal.{legalBackend, legalCall, legalCalls}
 use Rattle.history.specs.Runs.{fresh, after, accepted}

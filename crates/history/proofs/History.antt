@@ -18,8 +18,8 @@ use Rattle.area_list.proofs.Ordered.{apart}
 use Rattle.area_list.proofs.Positions.{first}
 use Rattle.area_list.proofs.Rows.{length-rows}
 use Rattle.questions.specs.Question.{entriesOf, entriesRule}
-use Rattle.set.specs.Change.{Tables}
-use Rattle.set.specs.Calls.{Call}
+use Rattle.rules.specs.Change.{Tables}
+use Rattle.rules.specs.Calls.{Call}
 use Rattle.questions.proofs.Questions.{found-at, found-none, find-inside, entries-length}
 use Rattle.history.specs.Fate.{unmapped, mapped, fate, entryFor}
 use Rattle.history.specs.Follow.{areasOf, findIn, entriesIn, Finds, Follows}

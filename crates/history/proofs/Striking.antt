@@ -5,9 +5,9 @@ use mathlib.Core.List.{List, [], _∷_}
 use native.Mathlib.Decide.{ℕ-discrete}
 use borrow.Author.Tests.{eq-eqb, ne-eqb}
 use Rattle.lists.proofs.Every.{by-test}
-use Rattle.set.specs.Change.{Tables}
-use Rattle.set.specs.Calls.{Call, lenCall, emptyCall, overlapsCall, findCall, entriesCall, searchCall, mapCall, unmapCall, clearCall, protectCall, called}
-use Rattle.set.proofs.Demands.{all-or-nothing}
+use Rattle.rules.specs.Change.{Tables}
+use Rattle.rules.specs.Calls.{Call, lenCall, emptyCall, overlapsCall, findCall, entriesCall, searchCall, mapCall, unmapCall, clearCall, protectCall, called}
+use Rattle.rules.proofs.Demands.{all-or-nothing}
 use Rattle.history.specs.Runs.{after, accepted}
 use Rattle.history.specs.Strike.{asks, withoutQuestions}
 

@@ -16,8 +16,8 @@ use Rattle.area_list.specs.Good.{goodTables}
 use Rattle.area_list.specs.Layout.{capacityOf, rows}
 use Rattle.area_list.specs.Position.{contains}
 use Rattle.questions.specs.Question.{findRule, entriesRule}
-use Rattle.set.specs.Change.{Tables}
-use Rattle.set.specs.Calls.{Call}
+use Rattle.rules.specs.Change.{Tables}
+use Rattle.rules.specs.Calls.{Call}
 use Rattle.history.specs.Fate.{unmapped, mapped, fate, entryFor}
 
 -- what the calls say of these tables

@@ -7,7 +7,7 @@ use mathlib.Core.List.{List, [], _∷_}
 use lib.Dec.{ltb}
 use Rattle.page_table.specs.declared.Backend.{Backend}
 use Rattle.page_table.specs.declared.Backend.the-variants.{Lazy, Linear}
-use Rattle.set.specs.Calls.{Call, lenCall, emptyCall, overlapsCall, findCall, entriesCall, searchCall, mapCall, unmapCall, clearCall, protectCall}
+use Rattle.rules.specs.Calls.{Call, lenCall, emptyCall, overlapsCall, findCall, entriesCall, searchCall, mapCall, unmapCall, clearCall, protectCall}
 
 unfoldable pub legalBackend : Backend → Bool
 legalBackend Lazy = true

@@ -4,8 +4,8 @@ use mathlib.Core.Bool.{cond}
 use mathlib.Core.List.{List, [], _∷_}
 use lib.Dec.{eqb}
 use lib.ListN.{replicate}
-use Rattle.set.specs.Change.{Tables, tables}
-use Rattle.set.specs.Calls.{Call, called}
+use Rattle.rules.specs.Change.{Tables, tables}
+use Rattle.rules.specs.Calls.{Call, called}
 
 -- no areas and an all-zero page table of P pages, with an area table of so many words
 abbrev pub fresh : ℕ → ℕ → Tables

@@ -1,7 +1,7 @@
 -- Striking from a sequence of calls what cannot change the tables. Laws: `proofs/Striking.antt`. Assumes nothing.
 use mathlib.Core.Bool.{Bool, true, false, cond}
 use mathlib.Core.List.{List, [], _∷_}
-use Rattle.set.specs.Calls.{Call, lenCall, emptyCall, overlapsCall, findCall, entriesCall, searchCall, mapCall, unmapCall, clearCall, protectCall}
+use Rattle.rules.specs.Calls.{Call, lenCall, emptyCall, overlapsCall, findCall, entriesCall, searchCall, mapCall, unmapCall, clearCall, protectCall}
 
 -- calls that only ask
 unfoldable pub asks : Call → Bool

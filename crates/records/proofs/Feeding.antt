@@ -13,7 +13,7 @@ use Rattle.lists.proofs.Every.{by-test}
 use Rattle.lists.proofs.Over.{over-nothing}
 use Rattle.area.specs.Answer.{answer, Reply, reply}
 use Rattle.area.proofs.Answers.{reply-accepted, reply-refused, reply-zero}
-use Rattle.set.specs.Change.{Tables}
+use Rattle.rules.specs.Change.{Tables}
 use Rattle.questions.specs.Question.{overlapsRule}
 use Rattle.lines.specs.Line.{longestLine, lineBytes, Put}
 use Rattle.requests.specs.Request.{recordSize, requestOf}

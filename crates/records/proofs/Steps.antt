@@ -5,8 +5,8 @@ use mathlib.Core.List.{List}
 use native.Mathlib.Omega.{arith}
 use Rattle.area.specs.Answer.{number, Reply}
 use Rattle.area.specs.declared.Answer.{Answer}
-use Rattle.set.specs.Change.{Tables, changedOutcome}
-use Rattle.set.specs.declared.Changed.{Changed}
+use Rattle.rules.specs.Change.{Tables, changedOutcome}
+use Rattle.rules.specs.declared.Changed.{Changed}
 use Rattle.lines.specs.Line.{noLine, lineBytes}
 use Rattle.records.specs.Step.{ran, stepOutcome, answerLine, changedRan}
 use Rattle.records.specs.declared.Stepped.{Stepped}

@@ -9,7 +9,7 @@ use lib.ListN.{length, take}
 use Rattle.area.specs.Answer.{Test, refuse, answer, Reply, reply, replyBy}
 use Rattle.area.specs.declared.Area.{Area}
 use Rattle.area_list.specs.Layout.{rows}
-use Rattle.set.specs.Change.{Tables}
+use Rattle.rules.specs.Change.{Tables}
 use Rattle.questions.specs.Tests.{badTables}
 use Rattle.lines.specs.Line.{longestLine, lineBytes}
 use Rattle.requests.specs.Request.{recordSize}

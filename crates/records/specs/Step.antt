@@ -5,7 +5,7 @@ use mathlib.Core.Bool.{Bool, cond}
 use mathlib.Core.List.{List}
 use Rattle.area.specs.Answer.{Reply}
 use Rattle.area.specs.declared.Area.{Area}
-use Rattle.set.specs.Change.{Tables, tables, mapRule, unmapRule, clearRule, protectRule}
+use Rattle.rules.specs.Change.{Tables, tables, mapRule, unmapRule, clearRule, protectRule}
 use Rattle.questions.specs.Question.{findRule, overlapsRule, freeAreaRule}
 use Rattle.lines.specs.Line.{noLine, lineBytes}
 use Rattle.requests.specs.Request.{requestOf}

@@ -8,7 +8,7 @@ use lines::put_line;
 use requests::RECORD;
 use requests::Request;
 use requests::decode;
-use set::Changed;
+use rules::Changed;
 ghost use mathlib.Core.Path.{_≡_};
 ghost use mathlib.Core.Bool.{cond};
 ghost use Prim.Native.Nat.{_+_, _*_, _<_, _≤_};
@@ -16,7 +16,7 @@ ghost use lib.ListN.{length, take};
 ghost use Rattle.area.specs.Answer.{number, reply};
 ghost use Rattle.area_list.specs.Layout.{rows};
 ghost use Rattle.area_list.specs.Position.{SortedRows};
-ghost use Rattle.set.specs.Change.{tables};
+ghost use Rattle.rules.specs.Change.{tables};
 ghost use Rattle.lines.specs.Line.{longestLine, lineBytes, Put};
 ghost use Rattle.requests.specs.Request.{recordSize};
 ghost use Rattle.records.specs.Step.{stepOutcome, answerLine, runRule, stepRule};
@@ -66,15 +66,15 @@ pub fn run(areas: &mut [u64], pages: &mut [u32], count: usize, request: Request)
             flags,
             backend,
             replace,
-        } => changed(set::map(areas, pages, count, start, size, flags, backend, replace)),
-        Request::Unmap { start, size } => changed(set::unmap(areas, pages, count, start, size)),
+        } => changed(map::map(areas, pages, count, start, size, flags, backend, replace)),
+        Request::Unmap { start, size } => changed(unmap::unmap(areas, pages, count, start, size)),
         Request::Protect {
             start,
             size,
             set,
             clear,
-        } => changed(set::protect(areas, pages, count, start, size, set, clear)),
-        Request::Clear => changed(set::clear(areas, pages, count)),
+        } => changed(protect::protect(areas, pages, count, start, size, set, clear)),
+        Request::Clear => changed(unmap::clear(areas, pages, count)),
         Request::Find(address) => {
             let found = questions::find(areas, pages, count, address);
             let area = found.area;

@@ -5,7 +5,7 @@ use native.Mathlib.Omega.{arith}
 use lib.ListN.{length, take}
 use Rattle.records.proofs.Feeding.{Feeds, feeds-begin, feeds-on, feeds-end, Sized, sized-begin, sized-on}
 use Rattle.records.specs.Feed.{session}
-use Rattle.set.specs.Change.{tables}
+use Rattle.rules.specs.Change.{tables}
 use Rattle.records.proofs.take_bytes.Statement.{statement}
 use Rattle.records.proofs.take_bytes.Tie as tie
 

@@ -6,7 +6,7 @@ use mathlib.Core.Bool.{true}
 use lib.ListN.{length}
 use Rattle.area_list.specs.Good.{goodTables}
 use Rattle.area_list.proofs.Goodness.{tables-are, count-fits}
-use Rattle.set.specs.Change.{Tables, tables}
+use Rattle.rules.specs.Change.{Tables, tables}
 use Rattle.audits.proofs.Writing.{dump-bad, dump-areas, dump-pages, dump-short, dump-done}
 use Rattle.audits.proofs.write.dump.Statement.{statement}
 use Rattle.audits.proofs.write.dump.Tie as tie

@@ -4,7 +4,7 @@ use native.Mathlib.Omega.{arith}
 use borrow.Author.Needs.{needs}
 use mathlib.Core.Path.{sym}
 use lib.Seq.{length-take-le}
-use Rattle.set.specs.Change.{Tables, tables}
+use Rattle.rules.specs.Change.{Tables, tables}
 use Rattle.audits.proofs.Writing.{first-past, header-past, words-past, all-written}
 use Rattle.audits.proofs.write.put_dump.Statement.{statement}
 use Rattle.audits.proofs.write.put_dump.Tie as tie

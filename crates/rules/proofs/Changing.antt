@@ -35,7 +35,7 @@ use Rattle.changes.specs.Gap.{pieceOf, Cuts, Lays}
 use Rattle.changes.specs.declared.Gap.{Gap}
 use Rattle.changes.proofs.Gaps.{gap-cut, gap-insert}
 use Rattle.questions.specs.Tests.{rangeTests, rangeAnswer}
-use Rattle.set.specs.Change.{tables, listed, noRoom, unmapList, unmapTests, unmapRule, clearRule, mapped, mapList, mapFirstTests, mapFirstAnswer, mapTests, mapRule, protectList, protectFirstTests, protectFirstAnswer, protectTests, protectRule}
+use Rattle.rules.specs.Change.{tables, listed, noRoom, unmapList, unmapTests, unmapRule, clearRule, mapped, mapList, mapFirstTests, mapFirstAnswer, mapTests, mapRule, protectList, protectFirstTests, protectFirstAnswer, protectTests, protectRule}
 use Rattle.questions.proofs.Answering.{Refuses, no-test, one-test, answer-then, answer-stops, range-refuses, tables-bad, tables-good, Range, range-is, range-small}
 
 -- ---- tests after those of the range

@@ -8,9 +8,9 @@ use borrow.Author.Tests.{not-true, not-false}
 use Rattle.area_list.specs.Good.{goodTables}
 use Rattle.area_list.proofs.Goodness.{tables-are}
 use Rattle.area_list.proofs.Positions.{sorted}
-use Rattle.set.proofs.Changing.{none-laid, clear-refused, clear-done}
-use Rattle.set.proofs.clear.Statement.{statement}
-use Rattle.set.proofs.clear.Tie as tie
+use Rattle.rules.proofs.Changing.{none-laid, clear-refused, clear-done}
+use Rattle.unmap.proofs.clear.Statement.{statement}
+use Rattle.unmap.proofs.clear.Tie as tie
 
 good-requires : tie.Need-good-requires
 good-requires c κs = search needs

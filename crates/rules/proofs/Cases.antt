@@ -16,8 +16,8 @@ use Rattle.area_list.specs.Meet.{shares, sharesAny}
 use Rattle.area_list.specs.Store.{flat, store}
 use Rattle.effects.specs.Lists.{outside, cut, insert, newFlags, changes, protected, protect}
 use Rattle.effects.specs.Pages.{onAreas, cutPages, mapPages, protectsArea, protectPages}
-use Rattle.set.specs.Change.{mapRule, unmapRule, protectRule}
-use Rattle.set.specs.Cases.{changeCases}
+use Rattle.rules.specs.Change.{mapRule, unmapRule, protectRule}
+use Rattle.rules.specs.Cases.{changeCases}
 
 pub change-cases : agree changeCases ≡ true
 unfolding flatMap agree every everyIn everyOf inRange only each within writes wipes reflags packedOf linearFrame entryOf frameFits framesFit backendFits answer replyBy aligned goodArea holds capacityOf legalWord backendOf wordOf rowOf wordsOf rows goodRow goodRows goodTables shares sharesAny flat store outside cut insert newFlags changes protected protect onAreas cutPages mapPages protectsArea protectPages mapRule unmapRule protectRule changeCases

@@ -3,9 +3,9 @@ use borrow.Author.Needs.{needs}
 use mathlib.Core.Path.{_≡_, _∙_, sym}
 use borrow.Author.Tests.{eqb-true, eqb-false, not-true, not-false}
 use Rattle.questions.specs.Tests.{rangeAnswer}
-use Rattle.set.proofs.Changing.{protect-range, protect-set, protect-clear, protect-passes}
-use Rattle.set.proofs.protect_answer.Statement.{statement}
-use Rattle.set.proofs.protect_answer.Tie as tie
+use Rattle.rules.proofs.Changing.{protect-range, protect-set, protect-clear, protect-passes}
+use Rattle.protect.proofs.protect_answer.Statement.{statement}
+use Rattle.protect.proofs.protect_answer.Tie as tie
 
 range-answer-requires : tie.Need-range-answer-requires
 range-answer-requires c κs = search needs

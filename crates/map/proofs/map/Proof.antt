@@ -7,9 +7,9 @@ use Rattle.area.specs.Answer.{number}
 use Rattle.area_list.proofs.Goodness.{tables-are}
 use Rattle.area_list.proofs.Positions.{sorted}
 use Rattle.questions.proofs.Answering.{range-small}
-use Rattle.set.proofs.Changing.{GapFits, gap-fits, MapPassed, map-passed, map-refused, map-no-room, map-done}
-use Rattle.set.proofs.map.Statement.{statement}
-use Rattle.set.proofs.map.Tie as tie
+use Rattle.rules.proofs.Changing.{GapFits, gap-fits, MapPassed, map-passed, map-refused, map-no-room, map-done}
+use Rattle.map.proofs.map.Statement.{statement}
+use Rattle.map.proofs.map.Tie as tie
 
 map-answer-requires : tie.Need-map-answer-requires
 map-answer-requires c κs = search needs

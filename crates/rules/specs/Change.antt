@@ -18,7 +18,7 @@ use Rattle.area_list.specs.Store.{store}
 use Rattle.effects.specs.Lists.{cut, insert, protect}
 use Rattle.effects.specs.Pages.{cutPages, mapPages, protectPages}
 use Rattle.questions.specs.Tests.{tablesAnswer, rangeTests}
-use Rattle.set.specs.declared.Changed.{Changed}
+use Rattle.rules.specs.declared.Changed.{Changed}
 
 -- both tables and the count
 pub record Tables : Type 0 where

@@ -8,7 +8,7 @@ use lib.ListN.{take, replicate}
 use Rattle.lists.specs.Case.{Case, row}
 use Rattle.page_table.specs.declared.Backend.the-variants.{Lazy, Linear}
 use Rattle.area.specs.Answer.{Reply}
-use Rattle.set.specs.Change.{Tables, mapRule, unmapRule, protectRule}
+use Rattle.rules.specs.Change.{Tables, mapRule, unmapRule, protectRule}
 
 -- an answer, the count and the first words of the area table
 abbrev pub shown : ℕ → Reply Tables → List ℕ

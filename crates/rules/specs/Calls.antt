@@ -5,7 +5,7 @@ use mathlib.Core.Bool.{Bool}
 use Rattle.page_table.specs.declared.Backend.{Backend}
 use Rattle.area.specs.Answer.{Reply, reply}
 use Rattle.questions.specs.Question.{lenRule, emptyRule, overlapsRule, findRule, freeAreaRule}
-use Rattle.set.specs.Change.{Tables, unmapRule, clearRule, mapRule, protectRule}
+use Rattle.rules.specs.Change.{Tables, unmapRule, clearRule, mapRule, protectRule}
 
 pub data Call : Type 0 where
   lenCall : Call

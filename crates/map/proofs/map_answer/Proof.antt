@@ -7,9 +7,9 @@ use Rattle.area_list.proofs.Goodness.{tables-are}
 use Rattle.area_list.proofs.Positions.{sorted}
 use Rattle.questions.specs.Tests.{rangeAnswer}
 use Rattle.questions.proofs.Answering.{range-is, range-small}
-use Rattle.set.proofs.Changing.{map-range, map-empty, map-flags, map-exists, map-frames, map-passes}
-use Rattle.set.proofs.map_answer.Statement.{statement}
-use Rattle.set.proofs.map_answer.Tie as tie
+use Rattle.rules.proofs.Changing.{map-range, map-empty, map-flags, map-exists, map-frames, map-passes}
+use Rattle.map.proofs.map_answer.Statement.{statement}
+use Rattle.map.proofs.map_answer.Tie as tie
 
 range-answer-requires : tie.Need-range-answer-requires
 range-answer-requires c κs = search needs

@@ -7,9 +7,9 @@ use Rattle.area.specs.Answer.{number}
 use Rattle.area_list.proofs.Goodness.{tables-are}
 use Rattle.area_list.proofs.Positions.{sorted}
 use Rattle.questions.proofs.Answering.{Range, range-is, range-small}
-use Rattle.set.proofs.Changing.{GapFits, gap-fits, unmap-refused, unmap-nothing, unmap-no-room, unmap-done}
-use Rattle.set.proofs.unmap.Statement.{statement}
-use Rattle.set.proofs.unmap.Tie as tie
+use Rattle.rules.proofs.Changing.{GapFits, gap-fits, unmap-refused, unmap-nothing, unmap-no-room, unmap-done}
+use Rattle.unmap.proofs.unmap.Statement.{statement}
+use Rattle.unmap.proofs.unmap.Tie as tie
 
 -- past the first test the range is accepted
 passed : (c : tie.Else1) → number (c .before .before .range-answer .result) ≡ 0

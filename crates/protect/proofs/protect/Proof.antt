@@ -6,9 +6,9 @@ use borrow.Author.Tests.{eqb-true, eqb-false, not-true, not-false}
 use Rattle.area.specs.Answer.{number}
 use Rattle.protection.proofs.Words.{good-with-most}
 use Rattle.questions.proofs.Answering.{range-small}
-use Rattle.set.proofs.Changing.{ProtectPassed, protect-passed, protect-refused, protect-nothing, protect-no-room, protect-done}
-use Rattle.set.proofs.protect.Statement.{statement}
-use Rattle.set.proofs.protect.Tie as tie
+use Rattle.rules.proofs.Changing.{ProtectPassed, protect-passed, protect-refused, protect-nothing, protect-no-room, protect-done}
+use Rattle.protect.proofs.protect.Statement.{statement}
+use Rattle.protect.proofs.protect.Tie as tie
 
 protect-answer-requires : tie.Need-protect-answer-requires
 protect-answer-requires c κs = search needs
