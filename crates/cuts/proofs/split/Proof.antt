@@ -1,10 +1,10 @@
--- `Area::split` meets its contract. Assumes nothing.
+-- `split` meets its contract. Assumes nothing.
 use mathlib.Core.Path.{_∙_, sym}
 use borrow.Author.Needs.{needs}
 use borrow.Author.Tests.{eqb-true, eqb-false}
-use Rattle.area.proofs.Cuts.{split-accepted, split-refused}
-use Rattle.area.proofs.Area.split.Statement.{statement}
-use Rattle.area.proofs.Area.split.Tie as tie
+use Rattle.cuts.proofs.Cuts.{split-accepted, split-refused}
+use Rattle.cuts.proofs.split.Statement.{statement}
+use Rattle.cuts.proofs.split.Tie as tie
 
 cut-answer-requires : tie.Need-cut-answer-requires
 cut-answer-requires c κs = search needs

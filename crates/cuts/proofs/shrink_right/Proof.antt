@@ -1,11 +1,11 @@
--- `Area::shrink_right` meets its contract. Assumes nothing.
+-- `shrink_right` meets its contract. Assumes nothing.
 use mathlib.Core.Path.{_∙_, sym}
 use native.Mathlib.Omega.{arith}
 use borrow.Author.Needs.{needs}
 use borrow.Author.Tests.{eqb-true, eqb-false}
-use Rattle.area.proofs.Cuts.{shorter, right-accepted, right-refused}
-use Rattle.area.proofs.Area.shrink_right.Statement.{statement}
-use Rattle.area.proofs.Area.shrink_right.Tie as tie
+use Rattle.cuts.proofs.Cuts.{shorter, right-accepted, right-refused}
+use Rattle.cuts.proofs.shrink_right.Statement.{statement}
+use Rattle.cuts.proofs.shrink_right.Tie as tie
 
 size-requires : tie.Need-size-requires
 size-requires c κs = search needs

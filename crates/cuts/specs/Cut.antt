@@ -5,11 +5,11 @@ use Prim.Native.Nat.{ℕ, _+_, _-_}
 use mathlib.Core.Bool.{not, _&&_}
 use mathlib.Core.List.{List, [], _∷_}
 use lib.Dec.{ltb}
 use Rattle.area.specs.Answer.{number, Test, refuse, answer, Reply, reply, replyBy}
 use Rattle.area.specs.Area.{aligned, goodArea, largestSpace, part, nothing}
 use Rattle.area.specs.declared.Area.{Area}
-use Rattle.area.specs.declared.Split.{Split}
-use Rattle.area.specs.declared.Shrunk.{Shrunk}
+use Rattle.cuts.specs.declared.Divided.{Divided}
+use Rattle.cuts.specs.declared.Shrunk.{Shrunk}
 
 -- the tests of a cut that has to lie strictly between low and high
 unfoldable pub cutTests : Area → ℕ → ℕ → ℕ → List Test
@@ -31,7 +31,7 @@ pub record Pair : Type 0 where
 abbrev pub pair : Area → Area → Pair
 pair left right = record { left = left; right = right }
 
-abbrev pub splitOutcome : Split → Reply Pair
+abbrev pub splitOutcome : Divided → Reply Pair
 splitOutcome s = reply (number (s .answer)) (pair (s .left) (s .right))
 
 unfoldable pub splitRule : Area → ℕ → Reply Pair

@@ -1,11 +1,11 @@
--- `Area::shrink_left` meets its contract. Assumes nothing.
+-- `shrink_left` meets its contract. Assumes nothing.
 use mathlib.Core.Path.{_∙_, sym}
 use native.Mathlib.Omega.{arith}
 use borrow.Author.Needs.{needs}
 use borrow.Author.Tests.{eqb-true, eqb-false}
-use Rattle.area.proofs.Cuts.{shorter, left-accepted, left-refused}
-use Rattle.area.proofs.Area.shrink_left.Statement.{statement}
-use Rattle.area.proofs.Area.shrink_left.Tie as tie
+use Rattle.cuts.proofs.Cuts.{shorter, left-accepted, left-refused}
+use Rattle.cuts.proofs.shrink_left.Statement.{statement}
+use Rattle.cuts.proofs.shrink_left.Tie as tie
 
 size-requires : tie.Need-size-requires
 size-requires c κs = search needs

@@ -1,13 +1,13 @@
--- `Area::cut_answer` meets its contract: each answer is its test's, with all tests before it passed. Assumes nothing.
+-- `cut_answer` meets its contract: each answer is its test's, with all tests before it passed. Assumes nothing.
 use mathlib.Core.Path.{_≡_, _∙_, sym}
 use mathlib.Core.Bool.{true}
 use native.Mathlib.Omega.{arith}
 use borrow.Author.Needs.{needs}
 use borrow.Author.Tests.{not-true, not-false}
 use Rattle.area.specs.Area.{goodArea, largestSpace}
-use Rattle.area.proofs.Cuts.{cut-bad, cut-unaligned, cut-low, cut-high, cut-inside}
-use Rattle.area.proofs.Area.cut_answer.Statement.{statement}
-use Rattle.area.proofs.Area.cut_answer.Tie as tie
+use Rattle.cuts.proofs.Cuts.{cut-bad, cut-unaligned, cut-low, cut-high, cut-inside}
+use Rattle.cuts.proofs.cut_answer.Statement.{statement}
+use Rattle.cuts.proofs.cut_answer.Tie as tie
 
 good-in-requires : tie.Need-good-in-requires
 good-in-requires c κs = search needs
@@ -16,7 +16,7 @@ returns : tie.Need-returns
 returns c = sym (cut-bad _ _ _ _ (sym (c .before .good-in .ensures) ∙ not-true _ (c .if1 .taken)))
 
 -- past the first test the area is good
-good : (c : tie.Else1) → goodArea largestSpace (c .before .before .args .self) ≡ true
+good : (c : tie.Else1) → goodArea largestSpace (c .before .before .args .whole) ≡ true
 good c = sym (c .before .good-in .ensures) ∙ not-false _ (c .if1 .left)
 
 returns-2 : tie.Need-returns-2

@@ -7,14 +7,14 @@ use native.Mathlib.Decide.{decLt, ℕ-discrete}
 use lib.Dec.{ltb}
 use borrow.Author.Tests.{lt-ltb, le-ltb, eq-eqb, ne-eqb}
 use Rattle.page_table.specs.Limits.{pageSize}
 use Rattle.area.specs.Answer.{answer, reply}
 use Rattle.area.specs.Area.{aligned, goodArea, largestSpace, part, nothing}
-use Rattle.area.specs.Cut.{cutTests, cutAnswer, Pair, pair, splitOutcome, splitRule, shrunkOutcome, sizeAnswer, shrinkLeftRule, shrinkRightRule}
+use Rattle.cuts.specs.Cut.{cutTests, cutAnswer, Pair, pair, splitOutcome, splitRule, shrunkOutcome, sizeAnswer, shrinkLeftRule, shrinkRightRule}
 use Rattle.area.specs.declared.Area.{Area}
-use Rattle.area.specs.declared.Split.{Split}
-use Rattle.area.specs.declared.Shrunk.{Shrunk}
+use Rattle.cuts.specs.declared.Divided.{Divided}
+use Rattle.cuts.specs.declared.Shrunk.{Shrunk}
 use Rattle.area.proofs.Answers.{reply-accepted, reply-refused, reply-answer, one-outcome}
 use Rattle.area.proofs.Areas.{Good, Halves, good-is, part-good, halves}
 
 -- the tests in their order: each section adds that one more did not apply
 module _ (a : Area) (cut low high : ℕ) where
@@ -124,7 +124,7 @@ split-parts a at z =
 
 -- ---- no second outcome: the answer's number and the areas fix the result
 
-pub split-unique : (r s : Split) → splitOutcome r ≡ splitOutcome s → r ≡ s
+pub split-unique : (r s : Divided) → splitOutcome r ≡ splitOutcome s → r ≡ s
 split-unique r s e i = let u = one-outcome (r .answer) (s .answer) (pair (r .left) (r .right)) (pair (s .left) (s .right)) e in record { answer = u .answers i; left = u .values i .left; right = u .values i .right }
 
 pub shrunk-unique : (r s : Shrunk) → shrunkOutcome r ≡ shrunkOutcome s → r ≡ s
