@@ -2,10 +2,10 @@
 // 01's numbers in 01's order.
 use area::Answer;
 use area_list::capacity;
+use flags::reflag_areas;
 use page_table::entry::FLAGS;
 use protection::extra_areas;
 use protection::protect_list;
-use protection::reflag_areas;
 use questions::range_answer;
 use rules::Changed;
 ghost use mathlib.Core.Path.{_≡_};

@@ -1,4 +1,3 @@
 pub mod Flagging
-pub mod Flags
 pub mod Splits
 pub mod Words

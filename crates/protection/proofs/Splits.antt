@@ -17,7 +17,7 @@ use Rattle.area_list.proofs.Positions.{first-is, first-yes, first-no, ended, no
 use Rattle.area_list.proofs.Stores.{length-spliced}
 use Rattle.effects.specs.Lists.{newFlags}
 use Rattle.effects.proofs.Protecting.{cutsAt, cuts-yes, cuts-after, cuts-before, cuts-same, cuts-end, halves, halved-yes, halved-no, splitAt, split-cons}
-use Rattle.protection.proofs.Flags.{changes-not, changes-so}
+use Rattle.flags.proofs.Flags.{changes-not, changes-so}
 
 -- ---- the area that is split: only the first one that ends past the address can be it
 

@@ -12,8 +12,8 @@ use Rattle.area_list.proofs.Goodness.{tables-are}
 use Rattle.area_list.proofs.Positions.{sorted}
 use Rattle.effects.specs.Pages.{protectsArea, protectPages}
 use Rattle.effects.proofs.Sweeping.{Swept, sweep-begins, sweep-goes-on, sweep-ends, sweep-stops}
-use Rattle.protection.proofs.reflag_areas.Statement.{statement}
-use Rattle.protection.proofs.reflag_areas.Tie as tie
+use Rattle.flags.proofs.reflag_areas.Statement.{statement}
+use Rattle.flags.proofs.reflag_areas.Tie as tie
 
 abbrev Inv-loop : tie.InvT-loop
 Inv-loop areas pages₀ count low high set clear slot₀ pages slot =

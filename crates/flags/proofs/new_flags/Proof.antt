@@ -2,8 +2,8 @@
 use borrow.Author.Needs.{needs}
 use mathlib.Core.Path.{refl}
 use Rattle.effects.specs.Lists.{newFlags}
-use Rattle.protection.proofs.new_flags.Statement.{statement}
-use Rattle.protection.proofs.new_flags.Tie as tie
+use Rattle.flags.proofs.new_flags.Statement.{statement}
+use Rattle.flags.proofs.new_flags.Tie as tie
 
 sub-result : tie.Need-sub-result
 sub-result c = search needs

@@ -1,9 +1,9 @@
 -- `reflag_area` meets its contract: pages are written anew only where the flags change. Assumes nothing.
 use borrow.Author.Needs.{needs}
 use mathlib.Core.Path.{_∙_, sym}
-use Rattle.protection.proofs.Flags.{pages-same, pages-anew}
-use Rattle.protection.proofs.reflag_area.Statement.{statement}
-use Rattle.protection.proofs.reflag_area.Tie as tie
+use Rattle.flags.proofs.Flags.{pages-same, pages-anew}
+use Rattle.flags.proofs.reflag_area.Statement.{statement}
+use Rattle.flags.proofs.reflag_area.Tie as tie
 
 new-flags-requires : tie.Need-new-flags-requires
 new-flags-requires c κs = search needs
