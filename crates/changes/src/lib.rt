@@ -3,7 +3,7 @@
 use area::Area;
 use area_list::area_at;
 use page_table::PAGE;
-use page_table::wipe;
+use page_writes::wipe;
 use positions::any_overlap;
 use positions::first_ending_past;
 use slots::Parts;

@@ -4,7 +4,7 @@ use mathlib.Core.Bool.{cond}
 use mathlib.Core.List.{List, [], _∷_}
 use Rattle.lists.specs.Each.{within}
 use Rattle.page_table.specs.Limits.{pageSize}
-use Rattle.page_table.specs.Change.{writes, wipes, reflags}
+use Rattle.page_writes.specs.Change.{writes, wipes, reflags}
 use Rattle.area.specs.Area.{firstPage, endPage, holds}
 use Rattle.area.specs.declared.Area.{Area}
 use Rattle.effects.specs.Lists.{newFlags, changes}

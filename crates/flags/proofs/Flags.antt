@@ -7,7 +7,7 @@ use borrow.Author.Tests.{eq-eqb, ne-eqb}
 use Rattle.lists.specs.Each.{within}
 use Rattle.lists.proofs.Each.{length-within, within-in, within-before, within-after, within-is}
 use Rattle.page_table.specs.Limits.{pageSize}
-use Rattle.page_table.specs.Change.{reflags}
+use Rattle.page_writes.specs.Change.{reflags}
 use Rattle.area.specs.declared.Area.{Area}
 use Rattle.effects.specs.Lists.{newFlags, changes}
 use Rattle.effects.specs.Pages.{protectsArea}

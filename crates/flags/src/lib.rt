@@ -6,7 +6,7 @@ use changes::earlier;
 use changes::later;
 use page_table::PAGE;
 use page_table::entry::FLAGS;
-use page_table::reflag;
+use page_writes::reflag;
 use positions::first_ending_past;
 ghost use mathlib.Core.Path.{_≡_};
 ghost use mathlib.Core.Bool.{true};

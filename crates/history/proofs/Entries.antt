@@ -10,7 +10,7 @@ use Rattle.lists.proofs.Each.{length-within, getD-within}
 use Rattle.lists.proofs.Every.{by-test}
 use Rattle.page_table.specs.Limits.{pageSize}
 use Rattle.page_table.specs.Entry.{entryOf}
-use Rattle.page_table.specs.Change.{writes, wipes, reflags}
+use Rattle.page_writes.specs.Change.{writes, wipes, reflags}
 use Rattle.area.specs.Area.{firstPage, endPage, holds}
 use Rattle.area.specs.declared.Area.{Area}
 use Rattle.effects.specs.Lists.{changes, newFlags}

@@ -9,7 +9,7 @@ use changes::find_gap;
 use page_table::Backend;
 use page_table::PAGE;
 use page_table::entry::FLAGS;
-use page_table::write;
+use page_writes::write;
 use questions::range_answer;
 use rules::Changed;
 use slots::splice;

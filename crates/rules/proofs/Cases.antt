@@ -5,7 +5,7 @@ use mathlib.Core.List.{flatMap}
 use Rattle.lists.specs.Case.{agree}
 use Rattle.lists.specs.Every.{every, everyIn, everyOf}
 use Rattle.lists.specs.Each.{inRange, only, each, within}
-use Rattle.page_table.specs.Change.{writes, wipes, reflags}
+use Rattle.page_writes.specs.Change.{writes, wipes, reflags}
 use Rattle.page_table.specs.Entry.{packedOf, linearFrame, entryOf}
 use Rattle.page_table.specs.Frames.{frameFits, framesFit, backendFits}
 use Rattle.area.specs.Answer.{answer, replyBy}

@@ -11,7 +11,7 @@ use borrow.Author.Tests.{lt-ltb, le-ltb, eq-eqb, ne-eqb}
 use Rattle.lists.specs.Each.{within}
 use Rattle.lists.proofs.Each.{length-within, within-in, within-before, within-after, within-is, within-none}
 use Rattle.page_table.specs.Limits.{pageSize, maxFlags}
-use Rattle.page_table.specs.Change.{writes}
+use Rattle.page_writes.specs.Change.{writes}
 use Rattle.page_table.specs.Frames.{backendFits}
 use Rattle.page_table.specs.declared.Backend.{Backend}
 use Rattle.area.specs.Answer.{answer, Test, refuse, reply}

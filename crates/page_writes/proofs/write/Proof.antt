@@ -5,12 +5,12 @@ use mathlib.Core.Path.{_≡_, _∙_, sym}
 use mathlib.Core.Bool.{true}
 use mathlib.Core.List.{List}
 use Rattle.lists.specs.Each.{within}
 use Rattle.page_table.specs.Entry.{packedOf, entryOf}
-use Rattle.page_table.specs.Change.{writes}
+use Rattle.page_writes.specs.Change.{writes}
 use Rattle.page_table.specs.declared.Backend.{Backend}
 use Rattle.page_table.specs.declared.Backend.the-variants.{Lazy}
-use Rattle.page_table.proofs.write.Statement.{statement}
-use Rattle.page_table.proofs.write.Tie as tie
+use Rattle.page_writes.proofs.write.Statement.{statement}
+use Rattle.page_writes.proofs.write.Tie as tie
 
 -- all pages of a lazy area have one entry
 one-entry : (backend : Backend) (flags first end : ℕ) (pages : List ℕ) (entry : ℕ) → backend ≡ Lazy → entry ≡ packedOf flags true 0

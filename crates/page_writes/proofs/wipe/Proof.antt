@@ -1,8 +1,8 @@
 -- `wipe` meets its contract: it is `fill` with 0. Assumes nothing.
 use borrow.Author.Needs.{needs}
-use Rattle.page_table.specs.Change.{wipes}
-use Rattle.page_table.proofs.wipe.Statement.{statement}
-use Rattle.page_table.proofs.wipe.Tie as tie
+use Rattle.page_writes.specs.Change.{wipes}
+use Rattle.page_writes.proofs.wipe.Statement.{statement}
+use Rattle.page_writes.proofs.wipe.Tie as tie
 
 fill-requires : tie.Need-fill-requires
 fill-requires c κs = search needs

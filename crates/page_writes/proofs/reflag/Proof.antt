@@ -1,8 +1,8 @@
 -- `reflag` meets its contract: entries are written anew, so it is `write`. Assumes nothing.
 use borrow.Author.Needs.{needs}
-use Rattle.page_table.specs.Change.{writes, reflags}
-use Rattle.page_table.proofs.reflag.Statement.{statement}
-use Rattle.page_table.proofs.reflag.Tie as tie
+use Rattle.page_writes.specs.Change.{writes, reflags}
+use Rattle.page_writes.proofs.reflag.Statement.{statement}
+use Rattle.page_writes.proofs.reflag.Tie as tie
 
 write-requires : tie.Need-write-requires
 write-requires c κs = search needs
