@@ -1,8 +1,8 @@
 // The calls of the memory set for Rust and C, on numbers and slices alone; the declarations are in include/. Each returns document
 // 01's answer number and gives its other results through the `&mut` numbers, all of them 0 in a refusal.
 //
-// Each contract equates everything that a caller sees with the call's rule in the crate set, so no second outcome meets it
-// (`one-reply`, proofs/Numbers.antt).
+// Each contract equates everything that a caller sees with the call's rule in the crates questions and rules, so no second outcome
+// meets it (`one-reply`, proofs/Numbers.antt).
 use area_list::word_of;
 use page_table::Backend;
 use page_table::PAGE;

@@ -5,9 +5,9 @@ use Prim.Native.Nat.{_≤_}
 use mathlib.Core.Path.{_≡_, _∙_, sym, ap}
 use Rattle.area.specs.Area.{firstPage, endPage}
 use Rattle.area.specs.declared.Area.{Area}
-use Rattle.walk.specs.Mapped.{pagesOf, pagesIn}
-use Rattle.walk.proofs.pages_in.Statement.{statement}
-use Rattle.walk.proofs.pages_in.Tie as tie
+use Rattle.mapped.specs.Mapped.{pagesOf, pagesIn}
+use Rattle.mapped.proofs.pages_in.Statement.{statement}
+use Rattle.mapped.proofs.pages_in.Tie as tie
 
 none : (a : Area) → endPage a ≤ firstPage a → 0 ≡ pagesOf a
 none a h = omega arith

@@ -59,39 +59,39 @@ use Rattle.area_list.specs.declared.Item as items
 use Rattle.area_list.proofs.Item as I
 use Rattle.area_list.proofs.Item.Laws as I′
 use Rattle.questions.specs.Question.{lenRule}
 use Rattle.walk.specs.Walking.{walkOutcome, walkRule, after, yielded, moved}
-use Rattle.walk.specs.Mapped.{isNone, pagesIn, pagesUnder, mappedOutcome, mappedRule}
+use Rattle.mapped.specs.Mapped.{isNone, pagesIn, pagesUnder, mappedOutcome, mappedRule}
 use Rattle.walk.specs.declared.Walk.{Walk}
-use Rattle.walk.specs.declared.Mapped.{Mapped}
+use Rattle.mapped.specs.declared.Mapped.{Mapped}
 use Rattle.walk.proofs.Lent.{Asked, Aside, lends, back}
 use Rattle.walk.proofs.Past.{past}
-use Rattle.walk.proofs.Sum.{mapped-is, mapped-few, goes-on, some-below, none-left-over}
+use Rattle.mapped.proofs.Sum.{mapped-is, mapped-few, goes-on, some-below, none-left-over}
 use Rattle.walk.proofs.Yields.{walkAt, walk-number, walk-is, len-full}
 use Rattle.walk.proofs.Walk as T
 use Rattle.walk.proofs.Walk.Laws as T′
-use Rattle.walk.proofs.Mapped as R
-use Rattle.walk.proofs.Mapped.Laws as R′
+use Rattle.mapped.proofs.Mapped as R
+use Rattle.mapped.proofs.Mapped.Laws as R′
 use Rattle.walk.proofs.Walk.new as nw
 use Rattle.walk.proofs.Walk.new.Symbol as nw-def
 use Rattle.walk.proofs.Walk.new.Symbol.{name as #walk·new}
 use Rattle.walk.proofs.Walk.new.Met as nw-thm
 use Rattle.walk.proofs.Walk.next as nx
 use Rattle.walk.proofs.Walk.next.Symbol as nx-def
 use Rattle.walk.proofs.Walk.next.Symbol.{name as #walk·next}
 use Rattle.walk.proofs.Walk.next.Met as nx-thm
-use Rattle.walk.proofs.is_none as no
-use Rattle.walk.proofs.is_none.Symbol as no-def
-use Rattle.walk.proofs.is_none.Symbol.{name as #walk·is-none}
-use Rattle.walk.proofs.is_none.Met as no-thm
-use Rattle.walk.proofs.pages_in as pg
-use Rattle.walk.proofs.pages_in.Symbol as pg-def
-use Rattle.walk.proofs.pages_in.Symbol.{name as #walk·pages-in}
-use Rattle.walk.proofs.pages_in.Met as pg-thm
-use Rattle.walk.proofs.mapped_pages.Key.{name as #walk·mapped-pages}
-use Rattle.walk.proofs.mapped_pages as f
-use Rattle.walk.proofs.mapped_pages.Statement as stated
-use Rattle.walk.proofs.mapped_pages.Code as code
-use Rattle.walk.proofs.mapped_pages.Code.Mir as body
+use Rattle.mapped.proofs.is_none as no
+use Rattle.mapped.proofs.is_none.Symbol as no-def
+use Rattle.mapped.proofs.is_none.Symbol.{name as #mapped·is-none}
+use Rattle.mapped.proofs.is_none.Met as no-thm
+use Rattle.mapped.proofs.pages_in as pg
+use Rattle.mapped.proofs.pages_in.Symbol as pg-def
+use Rattle.mapped.proofs.pages_in.Symbol.{name as #mapped·pages-in}
+use Rattle.mapped.proofs.pages_in.Met as pg-thm
+use Rattle.mapped.proofs.mapped_pages.Key.{name as #mapped·mapped-pages}
+use Rattle.mapped.proofs.mapped_pages as f
+use Rattle.mapped.proofs.mapped_pages.Statement as stated
+use Rattle.mapped.proofs.mapped_pages.Code as code
+use Rattle.mapped.proofs.mapped_pages.Code.Mir as body
 
 abbrev stayed : Stays (f.ended .signature .params) (f.ended .kept)
 stayed = (stay-none-slice (0 ∷ []) tt (plain (λ _. u64)) yes, (stay-none-slice (1 ∷ []) tt (plain (λ _. u32)) yes, (stay-none (λ _. usize) yes, tt)))
@@ -128,7 +128,7 @@ module _ {M : Type 1} (𝓤 : URA M) (H : Heap 𝓤) (A : Atoms 𝓤) (at-mem : 
   PagesIn = tripleOf 𝓤 H A pg.signature (pg.spec 𝓤 H A at-mem run)
 
   abbrev Known : Tables 𝓤 H → Type 1
-  Known 𝓣 = Triple 𝓤 (𝓣 .C #walk·new) New × Triple 𝓤 (𝓣 .C #walk·next) Next × Triple 𝓤 (𝓣 .C #walk·is-none) IsNone × Triple 𝓤 (𝓣 .C #walk·pages-in) PagesIn
+  Known 𝓣 = Triple 𝓤 (𝓣 .C #walk·new) New × Triple 𝓤 (𝓣 .C #walk·next) Next × Triple 𝓤 (𝓣 .C #mapped·is-none) IsNone × Triple 𝓤 (𝓣 .C #mapped·pages-in) PagesIn
 
 module _ {M : Type 1} (𝓤 : URA M) (H : Heap 𝓤) (A : Atoms 𝓤) (W : Given 𝓤 H A) (at-mem : Memory → SProp 𝓤) (run : Routine → Fun 𝓤) (κ κ′ : Lft) (q q′ : Share) (a p : RefT (List ℕ)) (c : ℕ) (gc : c < 2 ^ 64) where
   abbrev ws : List ℕ
@@ -451,10 +451,10 @@ pub mapped-pages-spec : {M : Type 1} → stated.statement M
 unfolding code.routine tablesOf
 mapped-pages-spec 𝓤 H 𝓜 𝓖 𝓡 =
     entered 𝓤 H (tripleOf 𝓤 H (𝓖 .A) f.signature (f.spec 𝓤 H (𝓖 .A) (𝓜 .mem) (𝓡 .run)))
-    (tables 𝓤 H 𝓜 𝓡 code.env .C) (tables 𝓤 H 𝓜 𝓡 code.env .Λ) #walk·mapped-pages code.function (code.unfolded 𝓤 H 𝓜 𝓡)
+    (tables 𝓤 H 𝓜 𝓡 code.env .C) (tables 𝓤 H 𝓜 𝓡 code.env .Λ) #mapped·mapped-pages code.function (code.unfolded 𝓤 H 𝓜 𝓡)
     (f-meets 𝓤 H (𝓖 .A) (givenOf 𝓤 H 𝓜 𝓖) (𝓜 .mem) (𝓡 .run) (tablesOf 𝓤 H 𝓜 (tables 𝓤 H 𝓜 𝓡 code.env)) (
       cited 𝓤 H (New 𝓤 H (𝓖 .A) (𝓜 .mem) (𝓡 .run)) 𝓜 𝓡 code.env #walk·new nw-def.routine code.calls-walk·Walk·new (nw-thm.met 𝓤 H 𝓜 𝓖 𝓡),
       cited 𝓤 H (Next 𝓤 H (𝓖 .A) (𝓜 .mem) (𝓡 .run)) 𝓜 𝓡 code.env #walk·next nx-def.routine code.calls-walk·Walk·next (nx-thm.met 𝓤 H 𝓜 𝓖 𝓡),
-      cited 𝓤 H (IsNone 𝓤 H (𝓖 .A) (𝓜 .mem) (𝓡 .run)) 𝓜 𝓡 code.env #walk·is-none no-def.routine code.calls-walk·is-none (no-thm.met 𝓤 H 𝓜 𝓖 𝓡),
-      cited 𝓤 H (PagesIn 𝓤 H (𝓖 .A) (𝓜 .mem) (𝓡 .run)) 𝓜 𝓡 code.env #walk·pages-in pg-def.routine code.calls-walk·pages-in (pg-thm.met 𝓤 H 𝓜 𝓖 𝓡),
+      cited 𝓤 H (IsNone 𝓤 H (𝓖 .A) (𝓜 .mem) (𝓡 .run)) 𝓜 𝓡 code.env #mapped·is-none no-def.routine code.calls-mapped·is-none (no-thm.met 𝓤 H 𝓜 𝓖 𝓡),
+      cited 𝓤 H (PagesIn 𝓤 H (𝓖 .A) (𝓜 .mem) (𝓡 .run)) 𝓜 𝓡 code.env #mapped·pages-in pg-def.routine code.calls-mapped·pages-in (pg-thm.met 𝓤 H 𝓜 𝓖 𝓡),
     ))

@@ -25,10 +25,10 @@ use Rattle.area_list.proofs.Items.{past-count}
 use Rattle.area_list.proofs.Rows.{length-rows}
 use Rattle.questions.specs.Question.{lenRule}
 use Rattle.questions.proofs.Answering.{tables-bad, tables-good}
 use Rattle.walk.specs.Walking.{after}
-use Rattle.walk.specs.Mapped.{isNone, pagesIn, pagesUnder, mappedOutcome, mappedRule}
-use Rattle.walk.specs.declared.Mapped.{Mapped}
+use Rattle.mapped.specs.Mapped.{isNone, pagesIn, pagesUnder, mappedOutcome, mappedRule}
+use Rattle.mapped.specs.declared.Mapped.{Mapped}
 use Rattle.walk.proofs.Yields.{Full, len-good, len-bad}
 
 -- areas in order in a space have no more pages than it has
 within : {space before : ℕ} {xs : List Area} → Ordered space before xs → pagesUnder xs ≤ space / pageSize - before / pageSize

@@ -10,7 +10,7 @@ use Rattle.area_list.specs.Layout.{rows}
 use Rattle.area_list.specs.declared.Item.{Item}
 use Rattle.area_list.specs.declared.Item.the-variants.{Some, None}
 use Rattle.questions.specs.Tests.{tablesAnswer}
-use Rattle.walk.specs.declared.Mapped.{Mapped}
+use Rattle.mapped.specs.declared.Mapped.{Mapped}
 
 abbrev pub isNone : Item → Bool
 isNone (Some area) = false
