@@ -1,16 +1,16 @@
 -- Laws of lines: texts put one after another, hex digits from the last to the first, how long a line is. Assumes nothing.
 use Prim.Native.Nat.{ℕ, zero, suc, _+_, _/_, _%_, _≤_, _<_}
 use mathlib.Core.Path.{_≡_, refl, sym, ap, _∙_}
-use mathlib.Core.List.{List, [], _∷_, _++_}
+use mathlib.Core.List.{List, [], _∷_, _++_, append-assoc}
 use native.Mathlib.Omega.{arith}
 use lib.ListN.{length, getD, take, set, length-append, length-set}
 use lib.Seq.{take-at, getD-at, getD-take, take-take, take-all}
 use Rattle.lists.specs.Over.{over}
-use Rattle.lists.proofs.Over.{over-right, over-one, length-over, Falls, fall-begins, fall-goes-on, fall-ends}
+use Rattle.lists.proofs.Over.{over-right, over-nothing, over-one, length-over, Falls, fall-begins, fall-goes-on, fall-ends}
 use Rattle.area.specs.Answer.{number}
 use Rattle.area.specs.declared.Answer.{Answer}
 use Rattle.area.specs.declared.Answer.the-variants.{Accepted, BadTables, NotAligned, InvalidParam, AlreadyExists, BadState, NoRoom, NotFound}
-use Rattle.lines.specs.Line.{digit, hex, rangeLength, rangeBytes, longestLine, lineBytes, Put}
+use Rattle.lines.specs.Line.{digit, hex, address, rangeLength, rangeBytes, longestLine, tailBytes, lineBytes, Put}
 use Rattle.lines.specs.declared.Line.{Line}
 use Rattle.lines.specs.declared.Line.the-variants.{Ok, No, In, At, Over, Free, Bad, Cut, Area}
 
@@ -28,6 +28,9 @@ put-then {a} {b} {c} {xs} {ys} {p} {q} {r} s t =
     puts a p (xs ++ ys) c r (omega (arith, length-append xs ys, s .past, s .long, t .room))
     (t .written ∙ rw (s .written, s .past) (over-right a p xs ys (omega (arith, s .room))))
     (omega (arith, length-append xs ys, s .past, t .past))
+
+pub put-nothing : (before : List ℕ) (at : ℕ) → at ≤ length before → Put before at [] before at
+put-nothing before at h = puts before at [] before at (omega arith) (sym (over-nothing before at)) (omega arith)
 
 pub put-one : (before : List ℕ) (at byte : ℕ) → at < length before → Put before at (byte ∷ []) (set before at byte) (at + 1)
 put-one before at byte h = puts before at (byte ∷ []) (set before at byte) (at + 1) (omega arith) (over-one before at byte h) (omega arith)
@@ -67,17 +70,20 @@ module _ {out₀ : List ℕ} {at digits value : ℕ} {out : List ℕ} {k rest : 
         sym (take-take j (suc j) (hex digits value) (omega arith))
         ∙ rw step (take-at (hex j (rest / 16)) (digit (rest % 16) ∷ []) j (length-hex j (rest / 16)))
 
-    pub spells-on : at + digits ≤ length out₀ → (byte : ℕ) → byte ≡ digit (rest % 16) → Spells out₀ at digits value (set out (at + j) byte) j (rest / 16)
+    pub spells-on : at + digits < length out₀ → (byte : ℕ) → byte ≡ digit (rest % 16) → Spells out₀ at digits value (set out (at + j) byte) j (rest / 16)
     spells-on room byte b =
         record {
           falls = fall-goes-on (s .falls) (omega (arith, length-hex digits value)) j byte e (b ∙ last);
           left = before-last;
         }
 
-  pub spells-ends : at + digits ≤ length out₀ → k ≡ 0 → Put out₀ at (hex digits value) out (at + digits)
-  spells-ends room e =
-      puts out₀ at (hex digits value) out (at + digits) (omega (arith, length-hex digits value)) (fall-ends (s .falls) e)
-      (omega (arith, length-hex digits value))
+  pub spells-ends : at + digits < length out₀ → k ≡ 0 → (after : ℕ)
+      → Put out₀ at (hex digits value ++ (after ∷ [])) (set out (at + digits) after) (at + digits + 1)
+  spells-ends room e after =
+      put-then
+      (puts out₀ at (hex digits value) out (at + digits) (omega (arith, length-hex digits value)) (fall-ends (s .falls) e)
+      (omega (arith, length-hex digits value)))
+      (put-one out (at + digits) after (omega (arith, s .falls .long)))
 
 -- ---- lengths
 
@@ -107,12 +113,24 @@ line-short Bad = omega arith
 line-short Cut = omega arith
 line-short (Area start end flags) = simp (length-append, length-range, length-hex) (omega arith)
 
--- ---- one line, from the texts it is made of
+-- ---- one line, from its head and its tail
 
-pub as-line : {a b : List ℕ} {p q : ℕ} (line made : Line) → line ≡ made → Put a p (lineBytes made) b q → Put a p (lineBytes line) b q
-as-line line made e s = rw e s
-
-pub put-no : {a b : List ℕ} {p q : ℕ} (answer : Answer) (byte n : ℕ) → byte ≡ digit n → n ≡ number answer
-    → Put a p (110 ∷ 111 ∷ 32 ∷ byte ∷ 10 ∷ []) b q → Put a p (lineBytes (No answer)) b q
+pub no-line : (answer : Answer) (n k : ℕ) → n ≡ number answer → k ≡ digit n → lineBytes (No answer) ≡ 110 ∷ 111 ∷ 32 ∷ k ∷ 10 ∷ []
 unfolding lineBytes
-put-no answer byte n e f s = rw (← f, ← e) s
+no-line answer n k e f = rw (f, e)
+
+-- each number is put with the byte after it
+pub put-spaced : {a b c : List ℕ} {p q r : ℕ} (start end after : ℕ)
+    → Put a p (address start ++ (32 ∷ [])) b q → Put b q (address end ++ (after ∷ [])) c r → Put a p (rangeBytes start end ++ (after ∷ [])) c r
+unfolding rangeBytes
+put-spaced start end after s t = simp append-assoc (simp append-assoc at (put-then s t))
+
+pub put-area : {a b c : List ℕ} {p q r : ℕ} (start end flags : ℕ)
+    → Put a p (rangeBytes start end ++ (32 ∷ [])) b q → Put b q (hex 1 flags ++ (10 ∷ [])) c r → Put a p (tailBytes (Area start end flags)) c r
+unfolding tailBytes
+put-area start end flags s t = rw append-assoc at (put-then s t)
+
+-- the head is in, then the tail
+pub put-tail : {a b c : List ℕ} {p q r : ℕ} (head tail : List ℕ) (line : Line) → lineBytes line ≡ head ++ tailBytes line → Put a p head b q
+    → tailBytes line ≡ tail → Put b q tail c r → Put a p (lineBytes line) c r
+put-tail head tail line h s e t = rw (h, e) (put-then s t)

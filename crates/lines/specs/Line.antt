@@ -58,6 +58,18 @@ lineBytes Bad = bytes "bad\n"
 lineBytes Cut = bytes "cut\n"
 lineBytes (Area start end flags) = bytes "area " ++ (rangeBytes start end ++ (bytes " " ++ (hex 1 flags ++ bytes "\n")))
 
+-- a line from its first address on: `S E`, `A`, `S E F`
+unfoldable pub tailBytes : Line → List ℕ
+tailBytes Ok = []
+tailBytes (No answer) = []
+tailBytes (In start end) = rangeBytes start end ++ bytes "\n"
+tailBytes (At a) = address a ++ bytes "\n"
+tailBytes Over = []
+tailBytes Free = []
+tailBytes Bad = []
+tailBytes Cut = []
+tailBytes (Area start end flags) = rangeBytes start end ++ (bytes " " ++ (hex 1 flags ++ bytes "\n"))
+
 -- bytes went into a buffer at a place, and nothing else changed
 pub record Put (before : List ℕ) (at : ℕ) (text after : List ℕ) (next : ℕ) : Type 0 where
   pub room : at + length text ≤ length before
