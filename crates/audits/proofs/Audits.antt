@@ -14,9 +14,9 @@ use Rattle.page_table.specs.Limits.{maxPages}
 use Rattle.area_list.specs.Layout.{wordsPerArea, capacityOf, rows}
 use Rattle.area_list.specs.Good.{spaceOf, firstBad, goodTables}
 use Rattle.area_list.proofs.Goodness.{bad-within, first-decides}
+use Rattle.dumps.specs.Dump.{mostAreas, mostPages, wordSize, entrySize, headerSize, dumpLength, countIn, pagesIn, wordsIn, entriesIn, numbersAt}
 use Rattle.audits.specs.Agree.{firstWrong}
-use Rattle.audits.specs.Dump.{wordSize, entrySize, headerSize, dumpLength, countIn, pagesIn, wordsIn, entriesIn, numbersAt}
-use Rattle.audits.specs.Audit.{mostAreas, mostPages, found, tablesRule, sizeTests, sizedDump, Sized, Lent, auditRule}
+use Rattle.audits.specs.Audit.{found, tablesRule, sizeTests, sizedDump, Sized, Lent, auditRule}
 use Rattle.audits.specs.declared.Verdict.the-variants.{Table, Area, Page, Good}
 
 -- ---- tables

@@ -1,7 +1,6 @@
 pub mod Agreeing
 pub mod Audits
-pub mod Dumps
 pub mod Lowest
 pub mod Own
+pub mod Reading
 pub mod Verdicts
-pub mod Writing

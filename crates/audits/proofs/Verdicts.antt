@@ -1,7 +1,7 @@
 -- The audit gives a verdict exactly when its facts hold, so it gives one for every dump and never a second. Assumes nothing.
 use Prim.Native.Nat.{ℕ, _-_, _*_, _≤_, _<_}
 use mathlib.Core.Path.{_≡_, refl, sym, _∙_, subst}
-use mathlib.Core.Bool.{true, false, true≢false}
+use mathlib.Core.Bool.{true, true≢false}
 use mathlib.Core.List.{List}
 use mathlib.Core.Logic.{_↔_}
 use native.Mathlib.Omega.{arith}
@@ -15,16 +15,16 @@ use Rattle.area_list.specs.Layout.{wordsPerArea, capacityOf, rows}
 use Rattle.area_list.specs.Good.{spaceOf, firstBad}
 use Rattle.area_list.proofs.Goodness.{tables-are, good-before, bad-there, bad-only, first-decides}
 use Rattle.area_list.proofs.Ordered.{Ordered}
+use Rattle.dumps.specs.Dump.{wordSize, entrySize, headerSize, entriesAt, countIn, pagesIn, wordsIn, entriesIn}
 use Rattle.audits.specs.Agree.{disagrees, firstWrong}
-use Rattle.audits.specs.Dump.{wordSize, entrySize, headerSize, entriesAt, countIn, pagesIn, wordsIn, entriesIn}
 use Rattle.audits.specs.Audit.{tablesRule, sizedDump, Sized, auditRule}
 use Rattle.audits.specs.Says.{goodDumped, agreesAt, BreaksAt, DisagreesAt, GoodDump, Says}
 use Rattle.audits.specs.declared.Verdict.{Verdict}
 use Rattle.audits.specs.declared.Verdict.the-variants.{Table, Area, Page, Good}
 use Rattle.audits.proofs.Agreeing.{agrees-is, is-agrees}
 use Rattle.audits.proofs.Audits.{sized-is, is-sized, not-sized, table-verdict, area-verdict, good-then, page-verdict, good-verdict}
-use Rattle.audits.proofs.Dumps.{length-numbers}
 use Rattle.audits.proofs.Lowest.{lowest-none, lowest-there, lowest-only}
+use Rattle.audits.proofs.Reading.{length-numbers}
 
 module _ (bytes : List ℕ) where
   abbrev count : ℕ

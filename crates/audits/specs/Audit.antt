@@ -10,17 +10,10 @@ use lib.ListN.{length}
 use Rattle.lists.specs.Every.{every}
 use Rattle.area_list.specs.Layout.{wordsPerArea, rows}
 use Rattle.area_list.specs.Good.{spaceOf, firstBad}
+use Rattle.dumps.specs.Dump.{mostAreas, mostPages, dumpLength, countIn, pagesIn, wordsIn, entriesIn}
 use Rattle.audits.specs.Agree.{firstWrong}
-use Rattle.audits.specs.Dump.{dumpLength, countIn, pagesIn, wordsIn, entriesIn}
 use Rattle.audits.specs.declared.Verdict.{Verdict}
 use Rattle.audits.specs.declared.Verdict.the-variants.{Table, Area, Page, Good}
-
--- "at most 256 areas and 4,096 pages"
-abbrev pub mostAreas : ℕ
-mostAreas = 256
-
-abbrev pub mostPages : ℕ
-mostPages = 4096
 
 -- a place below the number of places is the verdict; else another is
 unfoldable pub found : (ℕ → Verdict) → ℕ → ℕ → Verdict → Verdict

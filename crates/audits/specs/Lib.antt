@@ -1,5 +1,3 @@
 pub mod Agree
 pub mod Audit
-pub mod Dump
 pub mod Says
-pub mod Write

@@ -1,11 +1,12 @@
 // An audit for the service desk: whether a dump of both tables is good, and if not, what is the first thing wrong with it.
-//
-//     0       8   16
-//    [ count | P | words of the areas | entries of the pages ]
-//
-// A dump is bytes; its numbers are little-endian, entries four bytes long and all others eight. `write` makes one.
+// How a dump lies is said in the crate dumps.
 use area_list::WORDS;
 use area_list::area_at;
+use dumps::AREAS;
+use dumps::ENTRY;
+use dumps::HEADER;
+use dumps::PAGES;
+use dumps::WORD;
 use good_tables::first_bad;
 use page_table::Backend;
 use page_table::PAGE;
@@ -19,24 +20,12 @@ ghost use Rattle.page_table.specs.Limits.{maxPages};
 ghost use Rattle.page_table.specs.Entry.{entryOf};
 ghost use Rattle.area_list.specs.Layout.{capacityOf, rows};
 ghost use Rattle.area_list.specs.Good.{goodTables};
+ghost use Rattle.dumps.specs.Dump.{wordSize, entrySize, numbersAt};
 ghost use Rattle.audits.specs.Agree.{differs, unmapped, lowestIn, firstWrong};
 ghost use Rattle.audits.specs.Audit.{tablesRule, sizedDump, Lent, auditRule};
-ghost use Rattle.audits.specs.Dump.{wordSize, entrySize, numbersAt};
 
-pub mod write;
-
-// The most areas and pages that a dump may have.
-const AREAS: usize = 256;
-
-const PAGES: usize = 4096;
 // The words of the most areas.
 const AREA_WORDS: usize = AREAS * WORDS;
-// Bytes of a word and of an entry, and of count and P together.
-pub const WORD: usize = 8;
-
-pub const ENTRY: usize = 4;
-
-pub const HEADER: usize = 2 * WORD;
 
 // What an audit finds.
 pub enum Verdict {

@@ -1,11 +1,12 @@
-// The service desk's programs: the audit of a dump, and the dump of what requests leave. What matters is in the crate audits.
+// The service desk's programs: the audit of a dump, and the dump of what requests leave. What matters is in the
+// crates audits and dumps.
 use area_list::WORDS;
-use audits::ENTRY;
-use audits::HEADER;
 use audits::Verdict;
-use audits::WORD;
 use audits::audit;
-use audits::write::dump;
+use dumps::ENTRY;
+use dumps::HEADER;
+use dumps::WORD;
+use dumps::dump;
 use libc::STDIN_FILENO;
 use libc::STDOUT_FILENO;
 use stream::AREA_WORDS;

@@ -4,7 +4,7 @@ use borrow.Author.Needs.{needs}
 use mathlib.Core.Path.{_≡_, _∙_, sym}
 use mathlib.Core.Bool.{true}
 use borrow.Author.Tests.{not-true, not-false}
-use Rattle.audits.specs.Dump.{countIn, pagesIn}
+use Rattle.dumps.specs.Dump.{countIn, pagesIn}
 use Rattle.audits.specs.Audit.{sizedDump}
 use Rattle.audits.proofs.Audits.{table-verdict, header-there, words-few, entries-few, area-words-long, entries-long, lent}
 use Rattle.audits.proofs.audit.Statement.{statement}

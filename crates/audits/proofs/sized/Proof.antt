@@ -2,7 +2,7 @@
 use native.Mathlib.Omega.{arith}
 use borrow.Author.Needs.{needs}
 use mathlib.Core.Path.{sym}
-use Rattle.audits.specs.Dump.{countIn, pagesIn}
+use Rattle.dumps.specs.Dump.{countIn, pagesIn}
 use Rattle.audits.proofs.Audits.{not-sized, length-decides}
 use Rattle.audits.proofs.sized.Statement.{statement}
 use Rattle.audits.proofs.sized.Tie as tie

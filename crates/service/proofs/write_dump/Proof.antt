@@ -7,9 +7,8 @@ use lib.Seq.{length-take-le}
 use borrow.Author.Needs.{needs}
 use borrow.Author.Tests.{eqb-true, not-false}
 use Rattle.area.specs.Answer.{number}
-use Rattle.audits.proofs.Writing.{written-areas, written-room}
-use Rattle.audits.specs.Audit.{mostAreas}
-use Rattle.audits.specs.Dump.{dumpLength}
+use Rattle.dumps.proofs.Writing.{written-areas, written-room}
+use Rattle.dumps.specs.Dump.{mostAreas, dumpLength}
 use Rattle.service.proofs.write_dump.Statement.{statement}
 use Rattle.service.proofs.write_dump.Tie as tie
 

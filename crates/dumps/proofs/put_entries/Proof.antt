@@ -1,13 +1,13 @@
--- `write::put_entries` meets its contract. The loop's invariant: the first k entries are written, and next is the place after them.
+-- `put_entries` meets its contract. The loop's invariant: the first k entries are written, and next is the place after them.
 -- Assumes nothing.
 use Prim.Native.Nat.{_-_}
 use mathlib.Core.Path.{refl}
 use native.Mathlib.Omega.{arith}
 use lib.ListN.{length}
-use Rattle.audits.specs.Dump.{entrySize}
-use Rattle.audits.proofs.Writing.{Lists, lists-begins, lists-on, lists-ends}
-use Rattle.audits.proofs.write.put_entries.Statement.{statement}
-use Rattle.audits.proofs.write.put_entries.Tie as tie
+use Rattle.dumps.specs.Dump.{entrySize}
+use Rattle.dumps.proofs.Writing.{Lists, lists-begins, lists-on, lists-ends}
+use Rattle.dumps.proofs.put_entries.Statement.{statement}
+use Rattle.dumps.proofs.put_entries.Tie as tie
 
 abbrev Inv-loop : tie.InvT-loop
 Inv-loop out₀ at entries next₀ k₀ out next k = Lists out₀ at entrySize entries out next k

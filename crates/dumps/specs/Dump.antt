@@ -1,11 +1,18 @@
--- A dump (02, W1): "count and P as u64, the area words, then the page entries, little-endian". Laws: `proofs/Dumps.antt`.
--- Assumes nothing.
+-- A dump (02, W1): "count and P as u64, the area words, then the page entries, little-endian". Laws: `proofs/Dumps.antt`,
+-- `proofs/Back.antt`. Assumes nothing.
 use Prim.Native.Nat.{ℕ, zero, suc, _+_, _*_, _/_, _%_}
 use mathlib.Core.List.{List, [], _∷_, _++_}
 use lib.ListN.{length, take}
 use Rattle.area_list.specs.Layout.{wordsPerArea}
 use Rattle.requests.specs.Request.{numberAt}
 use Rattle.rules.specs.Change.{Tables}
+
+-- "at most 256 areas and 4,096 pages"
+abbrev pub mostAreas : ℕ
+mostAreas = 256
+
+abbrev pub mostPages : ℕ
+mostPages = 4096
 
 -- bytes of a word, of an entry, and of count and P together
 abbrev pub wordSize : ℕ

@@ -1,9 +1,9 @@
-// A dump of the set's own tables, to be sent.
-use crate::AREAS;
-use crate::ENTRY;
-use crate::HEADER;
-use crate::PAGES;
-use crate::WORD;
+// A dump of the set's own tables, to be sent:
+//
+//     0       8   16
+//    [ count | P | words of the areas | entries of the pages ]
+//
+// It is bytes; its numbers are little-endian, entries four bytes long and all others eight.
 use area::Answer;
 use area_list::WORDS;
 use good_tables::good;
@@ -15,8 +15,19 @@ ghost use Rattle.area.specs.Answer.{number, reply};
 ghost use Rattle.area_list.specs.Layout.{wordsPerArea};
 ghost use Rattle.lines.specs.Line.{Put};
 ghost use Rattle.rules.specs.Change.{tables};
-ghost use Rattle.audits.specs.Dump.{wordSize, entrySize, dumpLength, bytesOf, allBytes, dumpOf};
-ghost use Rattle.audits.specs.Write.{writeRule};
+ghost use Rattle.dumps.specs.Dump.{wordSize, entrySize, dumpLength, bytesOf, allBytes, dumpOf};
+ghost use Rattle.dumps.specs.Write.{writeRule};
+
+// The most areas and pages that a dump may have.
+pub const AREAS: usize = 256;
+
+pub const PAGES: usize = 4096;
+// Bytes of a word and of an entry, and of count and P together.
+pub const WORD: usize = 8;
+
+pub const ENTRY: usize = 4;
+
+pub const HEADER: usize = 2 * WORD;
 
 // The last bytes of a number, the lowest first.
 fn put_number(out: &mut [u8], at: usize, size: usize, value: u64) -> usize
@@ -72,7 +83,7 @@ fn put_dump(areas: &[u64], pages: &[u32], count: usize, out: &mut [u8])
     put_entries(out, at, pages);
 }
 
-// Writes a dump of the tables to the start of a buffer. Tables that are not good or too large for an audit are refused with
+// Writes a dump of the tables to the start of a buffer. Tables that are not good or too large for a dump are refused with
 // BadTables, and a buffer that is too short with NoRoom; nothing is written then.
 pub fn dump(areas: &[u64], pages: &[u32], count: usize, out: &mut [u8]) -> Answer
     ensures { λ r. ⌜ reply (number r) (now (out .exit)) ≡ writeRule (tables (now (areas .entry)) (now (pages .entry)) count) (now (out .entry)) ⌝ }

@@ -9,10 +9,9 @@ use Rattle.lists.specs.Over.{over}
 use Rattle.area.specs.Answer.{Test, refuse, answer, Reply, replyBy}
 use Rattle.area_list.specs.Good.{goodTables}
 use Rattle.rules.specs.Change.{Tables}
-use Rattle.audits.specs.Audit.{mostAreas, mostPages}
-use Rattle.audits.specs.Dump.{dumpLength, dumpOf}
+use Rattle.dumps.specs.Dump.{mostAreas, mostPages, dumpLength, dumpOf}
 
--- 1 for tables that are not good or above the audit's sizes, 6 for a buffer that is too short
+-- 1 for tables that are not good or above the dump's sizes, 6 for a buffer that is too short
 abbrev pub writeTests : Tables → List ℕ → List Test
 writeTests t out =
     refuse 1 (not (goodTables (t .areas) (t .count) (length (t .pages))))

@@ -1,4 +1,4 @@
--- `write::dump` meets its contract: each refusal by its test, and past them the whole dump is written. Assumes nothing.
+-- `dump` meets its contract: each refusal by its test, and past them the whole dump is written. Assumes nothing.
 use borrow.Author.Needs.{needs}
 use borrow.Author.Tests.{not-true, not-false}
 use mathlib.Core.Path.{_≡_, _∙_, sym}
@@ -7,9 +7,9 @@ use lib.ListN.{length}
 use Rattle.area_list.specs.Good.{goodTables}
 use Rattle.area_list.proofs.Goodness.{tables-are, count-fits}
 use Rattle.rules.specs.Change.{Tables, tables}
-use Rattle.audits.proofs.Writing.{dump-bad, dump-areas, dump-pages, dump-short, dump-done}
-use Rattle.audits.proofs.write.dump.Statement.{statement}
-use Rattle.audits.proofs.write.dump.Tie as tie
+use Rattle.dumps.proofs.Writing.{dump-bad, dump-areas, dump-pages, dump-short, dump-done}
+use Rattle.dumps.proofs.dump.Statement.{statement}
+use Rattle.dumps.proofs.dump.Tie as tie
 
 abbrev given : tie.Start → Tables
 given c = tables (c .args .areas .now) (c .args .pages .now) (c .args .count)

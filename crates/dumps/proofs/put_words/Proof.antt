@@ -1,13 +1,13 @@
--- `write::put_words` meets its contract. The loop's invariant: the first k words are written, and next is the place after them.
+-- `put_words` meets its contract. The loop's invariant: the first k words are written, and next is the place after them.
 -- Assumes nothing.
 use Prim.Native.Nat.{_-_}
 use mathlib.Core.Path.{refl}
 use native.Mathlib.Omega.{arith}
 use lib.ListN.{length}
-use Rattle.audits.specs.Dump.{wordSize}
-use Rattle.audits.proofs.Writing.{Lists, lists-begins, lists-on, lists-ends}
-use Rattle.audits.proofs.write.put_words.Statement.{statement}
-use Rattle.audits.proofs.write.put_words.Tie as tie
+use Rattle.dumps.specs.Dump.{wordSize}
+use Rattle.dumps.proofs.Writing.{Lists, lists-begins, lists-on, lists-ends}
+use Rattle.dumps.proofs.put_words.Statement.{statement}
+use Rattle.dumps.proofs.put_words.Tie as tie
 
 abbrev Inv-loop : tie.InvT-loop
 Inv-loop out₀ at words next₀ k₀ out next k = Lists out₀ at wordSize words out next k

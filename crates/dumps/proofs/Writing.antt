@@ -21,10 +21,9 @@ use Rattle.area_list.specs.Good.{goodTables}
 use Rattle.rules.specs.Change.{Tables}
 use Rattle.lines.specs.Line.{Put}
 use Rattle.lines.proofs.Lines.{puts, put-then}
-use Rattle.audits.specs.Audit.{mostAreas, mostPages}
-use Rattle.audits.specs.Dump.{wordSize, entrySize, headerSize, entriesAt, dumpLength, bytesOf, allBytes, dumpOf}
-use Rattle.audits.specs.Write.{writeAnswer, writeRule}
-use Rattle.audits.proofs.Dumps.{length-bytes, length-all}
+use Rattle.dumps.specs.Dump.{mostAreas, mostPages, wordSize, entrySize, headerSize, entriesAt, dumpLength, bytesOf, allBytes, dumpOf}
+use Rattle.dumps.specs.Write.{writeAnswer, writeRule}
+use Rattle.dumps.proofs.Dumps.{length-bytes, length-all}
 
 -- ---- one number
 

@@ -1,11 +1,11 @@
--- `write::put_number` meets its contract. The loop's invariant: k bytes are written, and rest has those that are left.
+-- `put_number` meets its contract. The loop's invariant: k bytes are written, and rest has those that are left.
 -- Assumes nothing.
 use Prim.Native.Nat.{_-_}
 use mathlib.Core.Path.{refl}
 use native.Mathlib.Omega.{arith}
-use Rattle.audits.proofs.Writing.{Spells, spells-begins, spells-on, spells-ends}
-use Rattle.audits.proofs.write.put_number.Statement.{statement}
-use Rattle.audits.proofs.write.put_number.Tie as tie
+use Rattle.dumps.proofs.Writing.{Spells, spells-begins, spells-on, spells-ends}
+use Rattle.dumps.proofs.put_number.Statement.{statement}
+use Rattle.dumps.proofs.put_number.Tie as tie
 
 abbrev Inv-loop : tie.InvT-loop
 Inv-loop out₀ at size value k₀ rest₀ out k rest = Spells out₀ at size value out k rest

@@ -1,13 +1,13 @@
--- `write::put_dump` meets its contract: the four parts lie one after the other. Assumes nothing.
+-- `put_dump` meets its contract: the four parts lie one after the other. Assumes nothing.
 use Prim.Native.Nat.{_*_}
 use native.Mathlib.Omega.{arith}
 use borrow.Author.Needs.{needs}
 use mathlib.Core.Path.{sym}
 use lib.Seq.{length-take-le}
 use Rattle.rules.specs.Change.{Tables, tables}
-use Rattle.audits.proofs.Writing.{first-past, header-past, words-past, all-written}
-use Rattle.audits.proofs.write.put_dump.Statement.{statement}
-use Rattle.audits.proofs.write.put_dump.Tie as tie
+use Rattle.dumps.proofs.Writing.{first-past, header-past, words-past, all-written}
+use Rattle.dumps.proofs.put_dump.Statement.{statement}
+use Rattle.dumps.proofs.put_dump.Tie as tie
 
 abbrev given : tie.Start → Tables
 given c = tables (c .args .areas .now) (c .args .pages .now) (c .args .count)
