@@ -13,7 +13,7 @@ fn audit_next() -> bool {
     if io::read_full(STDIN_FILENO, &mut size) < 4 {
         return false;
     }
-    let length = requests::word32(&size, 0) as usize;
+    let length = little_endian::word32(&size, 0) as usize;
     if 65536 < length {
         return false;
     }

@@ -7,7 +7,7 @@ use native.Mathlib.Nat.{mul-suc, mul-zero}
 use native.Mathlib.Numerals.{add-one}
 use lib.ListN.{length, take, set, length-set}
 use lib.Seq.{take-all, take-suc-set}
-use Rattle.requests.specs.Request.{numberAt}
+use Rattle.little_endian.specs.Number.{numberAt}
 use Rattle.dumps.specs.Dump.{numbersAt}
 
 module _ (bytes : List ℕ) (size : ℕ) where

@@ -6,7 +6,7 @@ use native.Mathlib.Omega.{arith, pow-step}
 use native.Mathlib.Nat.{add-assoc, mul-suc, mul-zero}
 use lib.ListN.{length, getD, length-append}
 use lib.Seq.{getD-append-add}
-use Rattle.requests.specs.Request.{numberAt}
+use Rattle.little_endian.specs.Number.{numberAt}
 use Rattle.dumps.specs.Dump.{numbersAt, bytesOf, allBytes}
 
 -- ---- places further on

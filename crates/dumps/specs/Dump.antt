@@ -4,7 +4,7 @@ use Prim.Native.Nat.{ℕ, zero, suc, _+_, _*_, _/_, _%_}
 use mathlib.Core.List.{List, [], _∷_, _++_}
 use lib.ListN.{length, take}
 use Rattle.area_list.specs.Layout.{wordsPerArea}
-use Rattle.requests.specs.Request.{numberAt}
+use Rattle.little_endian.specs.Number.{numberAt}
 use Rattle.rules.specs.Change.{Tables}
 
 -- "at most 256 areas and 4,096 pages"

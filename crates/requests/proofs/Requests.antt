@@ -1,32 +1,19 @@
--- Laws of what a record asks for: numbers of several bytes, several fields tested for 0 at once, the request of an op.
+-- Laws of what a record asks for: several fields tested for 0 at once, the request of an op.
 -- Assumes nothing.
-use Prim.Native.Nat.{ℕ, _+_, _*_, _^_, _≤_, _<_}
-use mathlib.Core.Path.{_≡_, refl, sym, ap, _∙_}
-use mathlib.Core.Bool.{Bool, true, false, _&&_, cond}
+use Prim.Native.Nat.{ℕ, _+_, _^_, _≤_, _<_}
+use mathlib.Core.Path.{_≡_, refl, sym, ap}
+use mathlib.Core.Bool.{Bool, _&&_, cond}
 use mathlib.Core.List.{List, [], _∷_, _++_}
-use native.Mathlib.Nat.{add-assoc}
 use native.Mathlib.Omega.{arith}
 use lib.Bits.{bitOr, or-add-and, and-le-l, and-le-r}
 use lib.Dec.{eqb}
-use lib.ListN.{getD}
 use borrow.Author.Tests.{eq-eqb, ne-eqb, eqb-true, eqb-false, le-leb, lt-leb}
 use Rattle.lists.proofs.Every.{by-test}
 use Rattle.page_table.specs.declared.Backend.the-variants.{Lazy, Linear}
-use Rattle.requests.specs.Request.{numberAt, allZero, Blank, unless, mapWith, mapBy, searchBy, choices, chosen, requestBy}
+use Rattle.requests.specs.Request.{allZero, Blank, unless, mapWith, mapBy, searchBy, choices, chosen, requestBy}
 use Rattle.requests.specs.declared.Fields.{Fields}
 use Rattle.requests.specs.declared.Request.{Request}
 use Rattle.requests.specs.declared.Request.the-variants.{Search, Bad}
-
--- ---- numbers of several bytes
-
-pub number-four : (bytes : List ℕ) (at : ℕ)
-    → numberAt bytes at 4 ≡ getD bytes at 0 + 256 * getD bytes (at + 1) 0 + 65536 * (getD bytes (at + 2) 0 + 256 * getD bytes (at + 3) 0)
-unfolding numberAt
-number-four bytes at = rw (add-assoc at 1 1, add-assoc at 2 1) (omega arith)
-
-pub number-eight : (bytes : List ℕ) (at : ℕ) → numberAt bytes at 8 ≡ numberAt bytes at 4 + 2 ^ 32 * numberAt bytes (at + 4) 4
-unfolding numberAt
-number-eight bytes at = rw (add-assoc at 1 1, add-assoc at 2 1, add-assoc at 3 1) (omega arith)
 
 -- ---- fields tested for 0 together
 

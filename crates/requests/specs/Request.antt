@@ -2,12 +2,13 @@
 -- replacing, 3 unmap, 4 protect, 5 find, 6 overlaps, 7 search, 8 clear. Byte 1: flags or set. Byte 2: clear, or for search
 -- align's exponent. Byte 3: 0 lazy, 1 linear. Bytes 4–7 delta; 8–15 start, address or hint; 16–23 size; 24–31 limit end of a
 -- search (its limit start is 0)." Laws: `proofs/Requests.antt`. Assumes nothing.
-use Prim.Native.Nat.{ℕ, zero, suc, _+_, _*_, _^_}
+use Prim.Native.Nat.{ℕ, _^_}
 use mathlib.Core.Path.{_≡_}
 use mathlib.Core.Bool.{Bool, true, false, _&&_, cond}
 use mathlib.Core.List.{List, [], _∷_}
 use lib.Dec.{eqb, leb}
 use lib.ListN.{length, getD}
+use Rattle.little_endian.specs.Number.{numberAt}
 use Rattle.page_table.specs.declared.Backend.{Backend}
 use Rattle.page_table.specs.declared.Backend.the-variants.{Lazy, Linear}
 use Rattle.requests.specs.declared.Fields.{Fields}
@@ -17,11 +18,6 @@ use Rattle.requests.specs.declared.Request.the-variants.{Map, Unmap, Pro
 -- bytes in a record
 abbrev pub recordSize : ℕ
 recordSize = 32
-
--- the number in n bytes from a place on, the lowest byte first
-unfoldable pub numberAt : List ℕ → ℕ → ℕ → ℕ
-numberAt bytes at zero = 0
-numberAt bytes at (suc n) = getD bytes at 0 + 256 * numberAt bytes (at + 1) n
 
 -- the fields, each where it lies
 unfoldable pub fieldsOf : List ℕ → Fields

@@ -2,13 +2,17 @@
 //
 //     0    1       2       3         4       8       16     24
 //    [ op | flags | clear | backend | delta | start | size | limit ]
+use little_endian::byte;
+use little_endian::wide;
+use little_endian::word32;
+use little_endian::word64;
 use page_table::Backend;
 ghost use mathlib.Core.Path.{_≡_};
-ghost use Prim.Native.Nat.{_+_, _^_, _≤_, _<_};
+ghost use Prim.Native.Nat.{_^_, _≤_, _<_};
 ghost use mathlib.Core.Bool.{cond};
 ghost use lib.Dec.{eqb};
 ghost use lib.ListN.{length};
-ghost use Rattle.requests.specs.Request.{recordSize, numberAt, fieldsOf, Blank, besideRange, mapBy, searchBy, requestBy, requestOf};
+ghost use Rattle.requests.specs.Request.{recordSize, fieldsOf, Blank, besideRange, mapBy, searchBy, requestBy, requestOf};
 
 // Bytes in a record.
 pub const RECORD: usize = 32;
@@ -61,38 +65,6 @@ struct Fields {
     start: u64,
     size: u64,
     limit: u64,
-}
-
-fn byte(x: u8) -> u32
-    ensures { λ r. ⌜ (r ≡ x) × (r < 256) ⌝ }
-{
-    x as u32
-}
-
-fn wide(x: u32) -> u64
-    ensures { λ r. ⌜ (r ≡ x) × (r < 2 ^ 32) ⌝ }
-{
-    x as u64
-}
-
-// The number in four bytes, the lowest first.
-pub fn word32(bytes: &[u8], at: usize) -> u32
-    requires { ⌜ at + 4 ≤ length (now bytes) ⌝ }
-    ensures { λ r. ⌜ r ≡ numberAt (now (bytes .entry)) at 4 ⌝ }
-{
-    let low = byte(bytes[at]) + 0x100 * byte(bytes[at + 1]);
-    let high = byte(bytes[at + 2]) + 0x100 * byte(bytes[at + 3]);
-    low + 0x1_0000 * high
-}
-
-// The number in eight bytes, the lowest first.
-pub fn word64(bytes: &[u8], at: usize) -> u64
-    requires { ⌜ at + 8 ≤ length (now bytes) ⌝ }
-    ensures { λ r. ⌜ r ≡ numberAt (now (bytes .entry)) at 8 ⌝ }
-{
-    let low = wide(word32(bytes, at));
-    let high = wide(word32(bytes, at + 4));
-    low + 0x1_0000_0000 * high
 }
 
 fn fields_of(bytes: &[u8]) -> Fields

@@ -1,9 +1,9 @@
 -- `word64` meets its contract. Assumes nothing.
 use native.Mathlib.Omega.{arith}
 use borrow.Author.Needs.{needs}
-use Rattle.requests.proofs.Requests.{number-eight}
-use Rattle.requests.proofs.word64.Statement.{statement}
-use Rattle.requests.proofs.word64.Tie as tie
+use Rattle.little_endian.proofs.Numbers.{number-eight}
+use Rattle.little_endian.proofs.word64.Statement.{statement}
+use Rattle.little_endian.proofs.word64.Tie as tie
 
 word32-requires : tie.Need-word32-requires
 word32-requires c κs = search needs

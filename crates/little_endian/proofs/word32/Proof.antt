@@ -1,9 +1,9 @@
 -- `word32` meets its contract. Assumes nothing.
 use native.Mathlib.Omega.{arith}
 use borrow.Author.Needs.{needs}
-use Rattle.requests.proofs.Requests.{number-four}
-use Rattle.requests.proofs.word32.Statement.{statement}
-use Rattle.requests.proofs.word32.Tie as tie
+use Rattle.little_endian.proofs.Numbers.{number-four}
+use Rattle.little_endian.proofs.word32.Statement.{statement}
+use Rattle.little_endian.proofs.word32.Tie as tie
 
 shared-slice-read-byte : tie.Need-shared-slice-read-byte
 shared-slice-read-byte c = search needs
