@@ -1,7 +1,6 @@
 -- Laws of the reader: a byte more, many bytes, the room that they need, the listing. Assumes nothing.
 use Prim.Native.Nat.{ℕ, zero, suc, _+_, _-_, _≤_, _<_}
 use mathlib.Core.Path.{_≡_, refl, sym, ap, _∙_}
-use mathlib.Core.Bool.{cond}
 use mathlib.Core.List.{List, [], _∷_, _++_, append-assoc, append-nil}
 use native.Mathlib.Numerals.{add-one}
 use native.Mathlib.Omega.{arith}
@@ -14,16 +13,13 @@ use Rattle.lists.proofs.Over.{over-nothing}
 use Rattle.area.specs.Answer.{answer, Reply, reply}
 use Rattle.area.proofs.Answers.{reply-accepted, reply-refused, reply-zero}
 use Rattle.rules.specs.Change.{Tables}
-use Rattle.questions.specs.Question.{overlapsRule}
-use Rattle.lines.specs.Line.{longestLine, lineBytes, Put}
+use Rattle.lines.specs.Line.{longestLine, Put}
 use Rattle.requests.specs.Request.{recordSize, requestOf}
-use Rattle.records.specs.Step.{Ran, answerLine, runRule, stepRule}
+use Rattle.runs.specs.Run.{Ran}
+use Rattle.runs.proofs.Runs.{run-short}
+use Rattle.records.specs.Step.{stepRule}
 use Rattle.records.specs.Feed.{Session, session, Heard, heard, wholeRecord, took, nextFilled, after, takes, roomFor, feedAnswer, feedRule, settled, filledAfter, fedFilled}
-use Rattle.lines.specs.declared.Line.{Line}
-use Rattle.lines.specs.declared.Line.the-variants as line
-use Rattle.requests.specs.declared.Request.{Request}
-use Rattle.requests.specs.declared.Request.the-variants as request
-use Rattle.lines.proofs.Lines.{puts, put-then, line-short}
+use Rattle.lines.proofs.Lines.{puts, put-then}
 
 pub put-nothing : (out : List ℕ) (at : ℕ) → at ≤ length out → Put out at [] out at
 put-nothing out at h = puts out at [] out at (omega arith) (sym (over-nothing out at)) (omega arith)
@@ -61,24 +57,7 @@ module _ (t : Tables) (bytes : List ℕ) (filled byte : ℕ) (long : length byte
       let said : wholeRecord r ≡ took (session t (take filled bytes)) byte = ap wholeRecord e ∙ sym (took-whole h) in
       (ap (λ (x : Heard). x .session) said, (rw (← said) p, rw (le-ltb (filled + 1) recordSize (omega arith))))
 
--- ---- no line is longer than the longest
-
-answer-short : (n : ℕ) (line : Line) → length (answerLine n (lineBytes line)) ≤ longestLine
-unfolding answerLine
-answer-short zero line = line-short line
-answer-short (suc n) line = omega arith
-
-run-short : (t : Tables) (r : Request) → length (runRule t r .line) ≤ longestLine
-unfolding runRule
-run-short t (request.Map start size flags backend replace) = answer-short _ line.Ok
-run-short t (request.Unmap start size) = answer-short _ line.Ok
-run-short t (request.Protect start size set clear) = answer-short _ line.Ok
-run-short t (request.Find address) = answer-short _ (line.In _ _)
-run-short t (request.Overlaps start size) = answer-short _ (cond (overlapsRule (t .areas) (t .pages) (t .count) start size .value) line.Over line.Free)
-run-short t (request.Search hint size limit align) = answer-short _ (line.At _)
-run-short t request.Clear = answer-short _ line.Ok
-run-short t request.Bad = line-short line.Bad
-
+-- no line is longer than the longest
 step-short : (t : Tables) (bytes : List ℕ) → length (stepRule t bytes .line) ≤ longestLine
 unfolding stepRule
 step-short t bytes = run-short t (requestOf bytes)

@@ -1,7 +1,7 @@
 -- Laws of the end of the input: `cut`, the listing, area by area, and its answers. Assumes nothing.
 use Prim.Native.Nat.{ℕ, zero, suc, _+_, _*_, _≤_, _<_}
-use mathlib.Core.Path.{_≡_, refl, sym, ap, _∙_}
-use mathlib.Core.Bool.{Bool, true, false}
+use mathlib.Core.Path.{_≡_, refl, sym, ap}
+use mathlib.Core.Bool.{true, false}
 use mathlib.Core.List.{List, [], _∷_, _++_, append-assoc, append-nil}
 use native.Mathlib.Numerals.{add-one}
 use native.Mathlib.Omega.{arith}
@@ -13,8 +13,7 @@ use Rattle.area.specs.Area.{nothing}
 use Rattle.area.specs.declared.Area.{Area}
 use Rattle.area.proofs.Answers.{reply-zero, reply-refused}
 use Rattle.area_list.specs.Good.{goodTables}
-use Rattle.area_list.specs.Layout.{maxAreas, capacityOf, rows}
-use Rattle.area_list.proofs.Rows.{length-rows}
+use Rattle.area_list.specs.Layout.{rows}
 use Rattle.lines.specs.Line.{longestLine, lineBytes, Put}
 use Rattle.records.specs.Feed.{cutLine, areaLine, listing, roomToFinish, finishAnswer, finishRule}
 use Rattle.lines.specs.declared.Line.the-variants as line

@@ -1,4 +1,4 @@
-// The record program's work, on bytes in lent buffers: requests from records, calls of the set, lines of the answers.
+// The record program's work, on bytes in lent buffers: a piece of input cut anywhere, the lines of its records, and the areas at the end.
 use area::Answer;
 use area_list::area_at;
 use good_tables::good;
@@ -6,114 +6,21 @@ use lines::LONGEST;
 use lines::Line;
 use lines::put_line;
 use requests::RECORD;
-use requests::Request;
 use requests::decode;
-use rules::Changed;
+use runs::Stepped;
+use runs::run;
 ghost use mathlib.Core.Path.{_≡_};
-ghost use mathlib.Core.Bool.{cond};
 ghost use Prim.Native.Nat.{_+_, _*_, _<_, _≤_};
 ghost use lib.ListN.{length, take};
 ghost use Rattle.area.specs.Answer.{number, reply};
 ghost use Rattle.area_list.specs.Layout.{rows};
 ghost use Rattle.area_list.specs.Position.{SortedRows};
 ghost use Rattle.rules.specs.Change.{tables};
-ghost use Rattle.lines.specs.Line.{longestLine, lineBytes, Put};
+ghost use Rattle.lines.specs.Line.{longestLine, Put};
 ghost use Rattle.requests.specs.Request.{recordSize};
-ghost use Rattle.records.specs.Step.{stepOutcome, answerLine, runRule, stepRule};
+ghost use Rattle.runs.specs.Run.{stepOutcome};
+ghost use Rattle.records.specs.Step.{stepRule};
 ghost use Rattle.records.specs.Feed.{session, took, nextFilled, takes, roomFor, feedAnswer, feedRule, settled, fedFilled, cutLine, listing, finishRule};
-
-// What a record did: the count afterwards, and the line.
-pub struct Stepped {
-    pub count: usize,
-    pub line: Line,
-}
-
-// The line of an accepted call, and `no K` of a refused one.
-fn answer_line(answer: Answer, line: Line) -> Line
-    ensures { λ r. ⌜ lineBytes r ≡ answerLine (number answer) (lineBytes line) ⌝ }
-{
-    if answer.accepted() {
-        return line;
-    }
-    Line::No(answer)
-}
-
-fn overlap_line(yes: bool) -> Line
-    ensures { λ r. ⌜ r ≡ cond yes Line.Over Line.Free ⌝ }
-{
-    if yes { Line::Over } else { Line::Free }
-}
-
-fn changed(changed: Changed) -> Stepped
-    ensures { λ r. ⌜ (r .count ≡ changed .count) × (lineBytes (r .line) ≡ answerLine (number (changed .answer)) (lineBytes Line.Ok)) ⌝ }
-{
-    let answer = changed.answer;
-    let line = answer_line(answer, Line::Ok);
-    Stepped {
-        count: changed.count,
-        line,
-    }
-}
-
-// Makes the call that a request asks for.
-pub fn run(areas: &mut [u64], pages: &mut [u32], count: usize, request: Request) -> Stepped
-    ensures { λ r. ⌜ stepOutcome r (now (areas .exit)) (now (pages .exit)) ≡ runRule (tables (now (areas .entry)) (now (pages .entry)) count) request ⌝ }
-{
-    match request {
-        Request::Map {
-            start,
-            size,
-            flags,
-            backend,
-            replace,
-        } => changed(map::map(areas, pages, count, start, size, flags, backend, replace)),
-        Request::Unmap { start, size } => changed(unmap::unmap(areas, pages, count, start, size)),
-        Request::Protect {
-            start,
-            size,
-            set,
-            clear,
-        } => changed(protect::protect(areas, pages, count, start, size, set, clear)),
-        Request::Clear => changed(unmap::clear(areas, pages, count)),
-        Request::Find(address) => {
-            let found = questions::find(areas, pages, count, address);
-            let area = found.area;
-            let answer = found.answer;
-            let line = answer_line(answer, Line::In(area.start, area.end));
-            Stepped { count, line }
-        }
-        Request::Overlaps { start, size } => {
-            let told = questions::overlaps(areas, pages, count, start, size);
-            let answer = told.answer;
-            let line = answer_line(answer, overlap_line(told.yes));
-            Stepped { count, line }
-        }
-        Request::Search {
-            hint,
-            size,
-            limit,
-            align,
-        } => {
-            let placed = questions::find_free_area(
-                areas,
-                pages,
-                count,
-                hint,
-                size,
-                0,
-                limit,
-                align,
-            );
-            let answer = placed.answer;
-            let line = answer_line(answer, Line::At(placed.at));
-            Stepped { count, line }
-        }
-        Request::Bad => Stepped {
-            count,
-            line: Line::Bad,
-        },
-    }
-}
 
 // Runs one record.
 pub fn step(areas: &mut [u64], pages: &mut [u32], count: usize, bytes: &[u8]) -> Stepped

@@ -1,7 +1,8 @@
 -- `step` meets its contract. Assumes nothing.
 use mathlib.Core.Path.{ap, _∙_}
 use borrow.Author.Needs.{needs}
-use Rattle.records.specs.Step.{runRule, stepRule}
+use Rattle.runs.specs.Run.{runRule}
+use Rattle.records.specs.Step.{stepRule}
 use Rattle.records.proofs.step.Statement.{statement}
 use Rattle.records.proofs.step.Tie as tie
 

@@ -2,9 +2,9 @@
 use mathlib.Core.Path.{sym, _∙_}
 use borrow.Author.Needs.{needs}
 use borrow.Author.Tests.{eqb-true, eqb-false}
-use Rattle.records.proofs.Steps.{accepted-line, refused-line}
-use Rattle.records.proofs.answer_line.Statement.{statement}
-use Rattle.records.proofs.answer_line.Tie as tie
+use Rattle.runs.proofs.Runs.{accepted-line, refused-line}
+use Rattle.runs.proofs.answer_line.Statement.{statement}
+use Rattle.runs.proofs.answer_line.Tie as tie
 
 accepted-requires : tie.Need-accepted-requires
 accepted-requires c κs = search needs
