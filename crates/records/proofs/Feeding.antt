@@ -13,11 +13,10 @@ use Rattle.lists.proofs.Over.{over-nothing}
 use Rattle.area.specs.Answer.{answer, Reply, reply}
 use Rattle.area.proofs.Answers.{reply-accepted, reply-refused, reply-zero}
 use Rattle.rules.specs.Change.{Tables}
-use Rattle.lines.specs.Line.{longestLine, Put}
-use Rattle.requests.specs.Request.{recordSize, requestOf}
-use Rattle.runs.specs.Run.{Ran}
-use Rattle.runs.proofs.Runs.{run-short}
-use Rattle.records.specs.Step.{stepRule}
+use Rattle.lines.specs.Line.{Put}
+use Rattle.requests.specs.Request.{recordSize}
+use Rattle.runs.specs.Step.{Ran, stepRule}
+use Rattle.runs.proofs.Steps.{step-short}
 use Rattle.records.specs.Feed.{Session, session, Heard, heard, wholeRecord, took, nextFilled, after, takes, roomFor, feedAnswer, feedRule, settled, filledAfter, fedFilled}
 use Rattle.lines.proofs.Lines.{puts, put-then}
 
@@ -56,11 +55,6 @@ module _ (t : Tables) (bytes : List ℕ) (filled byte : ℕ) (long : length byte
   whole-done r e h p =
       let said : wholeRecord r ≡ took (session t (take filled bytes)) byte = ap wholeRecord e ∙ sym (took-whole h) in
       (ap (λ (x : Heard). x .session) said, (rw (← said) p, rw (le-ltb (filled + 1) recordSize (omega arith))))
-
--- no line is longer than the longest
-step-short : (t : Tables) (bytes : List ℕ) → length (stepRule t bytes .line) ≤ longestLine
-unfolding stepRule
-step-short t bytes = run-short t (requestOf bytes)
 
 -- room for a piece is room for its first byte and for the rest
 pub took-room : (s : Session) (byte m filled : ℕ) → length (s .held) ≡ filled → filled < recordSize

@@ -13,8 +13,7 @@ use Rattle.rules.specs.Change.{Tables}
 use Rattle.questions.specs.Tests.{badTables}
 use Rattle.lines.specs.Line.{longestLine, lineBytes}
 use Rattle.requests.specs.Request.{recordSize}
-use Rattle.runs.specs.Run.{Ran}
-use Rattle.records.specs.Step.{stepRule}
+use Rattle.runs.specs.Step.{Ran, stepRule}
 use Rattle.lines.specs.declared.Line.the-variants as line
 
 -- the tables, and the bytes of a record that is not whole yet

@@ -6,9 +6,7 @@ use lines::LONGEST;
 use lines::Line;
 use lines::put_line;
 use requests::RECORD;
-use requests::decode;
-use runs::Stepped;
-use runs::run;
+use runs::step;
 ghost use mathlib.Core.Path.{_≡_};
 ghost use Prim.Native.Nat.{_+_, _*_, _<_, _≤_};
 ghost use lib.ListN.{length, take};
@@ -18,16 +16,7 @@ ghost use Rattle.area_list.specs.Position.{SortedRows};
 ghost use Rattle.rules.specs.Change.{tables};
 ghost use Rattle.lines.specs.Line.{longestLine, Put};
 ghost use Rattle.requests.specs.Request.{recordSize};
-ghost use Rattle.runs.specs.Run.{stepOutcome};
-ghost use Rattle.records.specs.Step.{stepRule};
 ghost use Rattle.records.specs.Feed.{session, took, nextFilled, takes, roomFor, feedAnswer, feedRule, settled, fedFilled, cutLine, listing, finishRule};
-
-// Runs one record.
-pub fn step(areas: &mut [u64], pages: &mut [u32], count: usize, bytes: &[u8]) -> Stepped
-    ensures { λ r. ⌜ stepOutcome r (now (areas .exit)) (now (pages .exit)) ≡ stepRule (tables (now (areas .entry)) (now (pages .entry)) count) (now (bytes .entry)) ⌝ }
-{
-    run(areas, pages, count, decode(bytes))
-}
 
 // What one byte of input did: the count, the bytes of a record held, the place in the output.
 struct Taken {

@@ -1,14 +1,15 @@
-// One request of the record program, run on the tables: the call of the set that it asks for, and the line of the answer.
+// One record of the record program, run on the tables: the call of the set that it asks for, and the line of the answer.
 use area::Answer;
 use lines::Line;
 use requests::Request;
+use requests::decode;
 use rules::Changed;
 ghost use mathlib.Core.Path.{_≡_};
 ghost use mathlib.Core.Bool.{cond};
 ghost use Rattle.area.specs.Answer.{number};
 ghost use Rattle.rules.specs.Change.{tables, changedOutcome};
 ghost use Rattle.lines.specs.Line.{lineBytes};
-ghost use Rattle.runs.specs.Run.{stepOutcome, answerLine, runRule, changeRule, askedLine};
+ghost use Rattle.runs.specs.Step.{stepOutcome, answerLine, runRule, stepRule, changeRule, askedLine};
 
 // What a request did: the count afterwards, and the line.
 pub struct Stepped {
@@ -108,4 +109,11 @@ pub fn run(areas: &mut [u64], pages: &mut [u32], count: usize, request: Request)
     let count = changed.count;
     let line = answer_line(answer, ask(areas, pages, count, request));
     Stepped { count, line }
+}
+
+// Runs one record.
+pub fn step(areas: &mut [u64], pages: &mut [u32], count: usize, bytes: &[u8]) -> Stepped
+    ensures { λ r. ⌜ stepOutcome r (now (areas .exit)) (now (pages .exit)) ≡ stepRule (tables (now (areas .entry)) (now (pages .entry)) count) (now (bytes .entry)) ⌝ }
+{
+    run(areas, pages, count, decode(bytes))
 }

@@ -2,7 +2,7 @@
 use mathlib.Core.Path.{sym, _∙_}
 use borrow.Author.Needs.{needs}
 use borrow.Author.Tests.{eqb-true, eqb-false}
-use Rattle.runs.proofs.Runs.{accepted-line, refused-line}
+use Rattle.runs.proofs.Steps.{accepted-line, refused-line}
 use Rattle.runs.proofs.answer_line.Statement.{statement}
 use Rattle.runs.proofs.answer_line.Tie as tie
 

@@ -4,8 +4,8 @@ use borrow.Author.Needs.{needs}
 use Rattle.area.specs.Answer.{number}
 use Rattle.lines.specs.Line.{lineBytes}
 use Rattle.lines.specs.declared.Line.{Line}
-use Rattle.runs.specs.Run.{answerLine, foundLine, toldLine, placedLine, askedLine}
-use Rattle.runs.proofs.Runs.{change-ok}
+use Rattle.runs.specs.Step.{answerLine, foundLine, toldLine, placedLine, askedLine}
+use Rattle.runs.proofs.Steps.{change-ok}
 use Rattle.runs.proofs.ask.Statement.{statement}
 use Rattle.runs.proofs.ask.Tie as tie
 

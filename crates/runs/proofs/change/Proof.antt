@@ -1,8 +1,8 @@
 -- `change` meets its contract. Assumes nothing.
 use mathlib.Core.Path.{sym, _∙_}
 use borrow.Author.Needs.{needs}
-use Rattle.runs.specs.Run.{changeRule}
-use Rattle.runs.proofs.Runs.{no-change}
+use Rattle.runs.specs.Step.{changeRule}
+use Rattle.runs.proofs.Steps.{no-change}
 use Rattle.runs.proofs.change.Statement.{statement}
 use Rattle.runs.proofs.change.Tie as tie
 

@@ -2,8 +2,8 @@
 use mathlib.Core.Path.{ap, _∙_}
 use borrow.Author.Needs.{needs}
 use Rattle.area.specs.Answer.{number}
-use Rattle.runs.specs.Run.{answerLine}
-use Rattle.runs.proofs.Runs.{two-steps}
+use Rattle.runs.specs.Step.{answerLine}
+use Rattle.runs.proofs.Steps.{two-steps}
 use Rattle.runs.proofs.run.Statement.{statement}
 use Rattle.runs.proofs.run.Tie as tie
 

@@ -1,4 +1,4 @@
--- Laws of a run: the line of an answer, a request's outcome from what the set's call promises, and that no line is too long.
+-- Laws of a step: the line of an answer, a request's outcome from its change and its line, and that no line is too long.
 -- Assumes nothing.
 use Prim.Native.Nat.{ℕ, zero, suc, _≤_}
 use mathlib.Core.Path.{_≡_, refl, ap}
@@ -14,9 +14,10 @@ use Rattle.rules.specs.Change.{Tables}
 use Rattle.questions.specs.Question.{overlapsRule}
 use Rattle.lines.specs.Line.{noLine, longestLine, lineBytes}
 use Rattle.lines.proofs.Lines.{line-short}
-use Rattle.runs.specs.Run.{ran, answerLine, changedRan, runRule, changeRule, askedLine}
+use Rattle.runs.specs.Step.{ran, answerLine, changedRan, runRule, stepRule, changeRule, askedLine}
 use Rattle.lines.specs.declared.Line.{Line}
 use Rattle.lines.specs.declared.Line.the-variants as line
+use Rattle.requests.specs.Request.{requestOf}
 use Rattle.requests.specs.declared.Request.{Request}
 use Rattle.requests.specs.declared.Request.the-variants as request
 use Rattle.requests.proofs.Request.{the-type}
@@ -100,7 +101,7 @@ unfolding answerLine
 answer-short zero line = line-short line
 answer-short (suc n) line = omega arith
 
-pub run-short : (t : Tables) (r : Request) → length (runRule t r .line) ≤ longestLine
+run-short : (t : Tables) (r : Request) → length (runRule t r .line) ≤ longestLine
 unfolding runRule
 run-short t (request.Map start size flags backend replace) = answer-short _ line.Ok
 run-short t (request.Unmap start size) = answer-short _ line.Ok
@@ -110,3 +111,7 @@ run-short t (request.Overlaps start size) = answer-short _ (cond (overlapsRule (
 run-short t (request.Search hint size limit align) = answer-short _ (line.At _)
 run-short t request.Clear = answer-short _ line.Ok
 run-short t request.Bad = line-short line.Bad
+
+pub step-short : (t : Tables) (bytes : List ℕ) → length (stepRule t bytes .line) ≤ longestLine
+unfolding stepRule
+step-short t bytes = run-short t (requestOf bytes)

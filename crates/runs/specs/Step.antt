@@ -1,5 +1,5 @@
--- What one request does to the tables, and the line it is answered with (01, "The record program"), from the rules of the set.
--- Laws: `proofs/Runs.antt`. Assumes nothing.
+-- What one record does to the tables, and the line it is answered with (01, "The record program"), from the rules of the set.
+-- Laws: `proofs/Steps.antt`. Assumes nothing.
 use Prim.Native.Nat.{ℕ, zero, suc}
 use mathlib.Core.Bool.{Bool, cond}
 use mathlib.Core.List.{List}
@@ -8,6 +8,7 @@ use Rattle.area.specs.declared.Area.{Area}
 use Rattle.rules.specs.Change.{Tables, tables, mapRule, unmapRule, clearRule, protectRule}
 use Rattle.questions.specs.Question.{findRule, overlapsRule, freeAreaRule}
 use Rattle.lines.specs.Line.{noLine, lineBytes}
+use Rattle.requests.specs.Request.{requestOf}
 use Rattle.runs.specs.declared.Stepped.{Stepped}
 use Rattle.lines.specs.declared.Line.the-variants as line
 use Rattle.requests.specs.declared.Request.{Request}
@@ -56,7 +57,10 @@ runRule t (request.Search hint size limit align) = ran t (placedLine (freeAreaRu
 runRule t request.Clear = changedRan (clearRule (t .areas) (t .pages) (t .count))
 runRule t request.Bad = ran t (lineBytes line.Bad)
 
--- ---- the same in two steps, as the code goes: first the change, then the line, on the tables that it left
+unfoldable pub stepRule : Tables → List ℕ → Ran
+stepRule t bytes = runRule t (requestOf bytes)
+
+-- ---- a request in two steps, as the code goes: first the change, then the line, on the tables that it left
 
 -- a question and a bad request are accepted, and change nothing
 unfoldable pub changeRule : Tables → Request → Reply Tables

@@ -1,10 +1,9 @@
 -- `step` meets its contract. Assumes nothing.
 use mathlib.Core.Path.{ap, _∙_}
 use borrow.Author.Needs.{needs}
-use Rattle.runs.specs.Run.{runRule}
-use Rattle.records.specs.Step.{stepRule}
-use Rattle.records.proofs.step.Statement.{statement}
-use Rattle.records.proofs.step.Tie as tie
+use Rattle.runs.specs.Step.{runRule, stepRule}
+use Rattle.runs.proofs.step.Statement.{statement}
+use Rattle.runs.proofs.step.Tie as tie
 
 decode-requires : tie.Need-decode-requires
 decode-requires c κs = search needs
