@@ -14,10 +14,10 @@ fn audit_next() -> bool {
         return false;
     }
     let length = little_endian::word32(&size, 0) as usize;
-    if 65536 < length {
+    let mut bytes = io::large_buffer();
+    if bytes.len() < length {
         return false;
     }
-    let mut bytes = io::large_buffer();
     audit_part(&mut bytes[..length])
 }
 

@@ -24,10 +24,10 @@ use Rattle.history.proofs.Lookups.{seen, lookup}
 use Rattle.dumps.specs.Dump.{mostAreas, mostPages, entrySize, countIn, pagesIn, wordsIn, entriesIn, dumpOf}
 use Rattle.dumps.proofs.Dumps.{Fitting}
 use Rattle.dumps.proofs.Back.{count-back, pages-back, words-back, entries-back, dump-long}
-use Rattle.audits.specs.Agree.{unmapped, disagrees}
+use Rattle.agreement.specs.Agree.{unmapped, disagrees}
 use Rattle.audits.specs.Audit.{auditRule}
 use Rattle.audits.specs.declared.Verdict.the-variants.{Good}
-use Rattle.audits.proofs.Agreeing.{same-entry, entry-same, agrees-is}
+use Rattle.agreement.proofs.Agreeing.{same-entry, entry-same, agrees-is}
 use Rattle.audits.proofs.Verdicts.{audit-good}
 
 -- ---- entries

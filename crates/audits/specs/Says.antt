@@ -7,7 +7,7 @@ use mathlib.Core.List.{List}
 use Rattle.area_list.specs.Layout.{rows}
 use Rattle.area_list.specs.Good.{spaceOf, goodRows, goodTables}
 use Rattle.dumps.specs.Dump.{countIn, pagesIn, wordsIn, entriesIn}
-use Rattle.audits.specs.Agree.{Agrees}
+use Rattle.agreement.specs.Agree.{Agrees}
 use Rattle.audits.specs.Audit.{Sized}
 use Rattle.audits.specs.declared.Verdict.{Verdict}
 use Rattle.audits.specs.declared.Verdict.the-variants.{Table, Area, Page, Good}

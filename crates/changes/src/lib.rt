@@ -1,22 +1,18 @@
-// The work of the calls that change the tables, for good tables and arguments that have been tested: which slots a range
-// cuts, and what becomes of the entries of the pages in it.
+// The work of map and unmap on the list, for good tables and arguments that have been tested: which slots a range cuts, and what
+// takes their place.
 use area::Area;
 use area_list::area_at;
-use page_table::PAGE;
-use page_writes::wipe;
 use positions::any_overlap;
 use positions::first_ending_past;
 use slots::Parts;
 ghost use mathlib.Core.Path.{_≡_};
 ghost use mathlib.Core.Bool.{true, false, not, _&&_};
-ghost use Prim.Native.Nat.{min, max, _<_};
+ghost use Prim.Native.Nat.{_<_};
 ghost use mathlib.Core.List.{[], _∷_, _++_};
-ghost use lib.ListN.{length, drop};
+ghost use lib.ListN.{drop};
 ghost use Rattle.area_list.specs.Layout.{rows};
-ghost use Rattle.area_list.specs.Good.{goodTables};
 ghost use Rattle.area_list.specs.Position.{SortedRows};
 ghost use Rattle.area_list.specs.Meet.{sharesAny};
-ghost use Rattle.effects.specs.Pages.{cutPages};
 ghost use Rattle.effects.proofs.Cutting.{leftOf};
 ghost use Rattle.changes.specs.Gap.{pieceOf, RightOf, Cuts, Lays, partsWith};
 
@@ -32,37 +28,6 @@ pub struct Gap {
     pub high: usize,
     pub left: Piece,
     pub right: Piece,
-}
-
-// The earlier and the later of two addresses.
-pub fn earlier(a: u64, b: u64) -> u64
-    ensures { λ r. ⌜ r ≡ min a b ⌝ }
-{
-    if a < b { a } else { b }
-}
-
-pub fn later(a: u64, b: u64) -> u64
-    ensures { λ r. ⌜ r ≡ max a b ⌝ }
-{
-    if a < b { b } else { a }
-}
-
-// Makes the pages unmapped that lie in areas and in the range.
-pub fn wipe_areas(areas: &[u64], pages: &mut [u32], count: usize, low: u64, high: u64)
-    requires { ⌜ goodTables (now areas) count (length (now pages)) ≡ true ⌝ }
-    ensures { λ _. ⌜ now (pages .exit) ≡ cutPages low high (rows (now (areas .entry)) count) (now (pages .entry)) ⌝ }
-{
-    let mut slot = first_ending_past(areas, count, low);
-    while slot < count {
-        let area = area_at(areas, count, slot);
-        if high <= area.start {
-            return;
-        }
-        let first = (later(low, area.start) / PAGE) as usize;
-        let end = (earlier(high, area.end) / PAGE) as usize;
-        wipe(pages, first, end);
-        slot += 1;
-    }
 }
 
 fn no_piece() -> Piece

@@ -28,6 +28,8 @@ pub const WORD: usize = 8;
 pub const ENTRY: usize = 4;
 
 pub const HEADER: usize = 2 * WORD;
+// Bytes of the longest dump.
+pub const LONGEST: usize = HEADER + WORD * (WORDS * AREAS) + ENTRY * PAGES;
 
 // The last bytes of a number, the lowest first.
 fn put_number(out: &mut [u8], at: usize, size: usize, value: u64) -> usize

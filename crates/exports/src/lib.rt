@@ -130,7 +130,7 @@ pub extern "C" fn memory_set_find_free_area(
 ) -> u32
     ensures { λ r. ⌜ reply r (now (at .exit)) ≡ freeAreaRule (now (areas .entry)) (now (pages .entry)) count hint size «limit_start» «limit_end» align ⌝ }
 {
-    let placed = questions::find_free_area(
+    let placed = free_area::find_free_area(
         areas,
         pages,
         count,

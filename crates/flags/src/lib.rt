@@ -2,12 +2,12 @@
 // have been tested.
 use area::Area;
 use area_list::area_at;
-use changes::earlier;
-use changes::later;
 use page_table::PAGE;
 use page_table::entry::FLAGS;
 use page_writes::reflag;
 use positions::first_ending_past;
+use wipes::earlier;
+use wipes::later;
 ghost use mathlib.Core.Path.{_≡_};
 ghost use mathlib.Core.Bool.{true};
 ghost use Prim.Native.Nat.{min, max, _/_, _≤_};

@@ -29,6 +29,14 @@ put-then {a} {b} {c} {xs} {ys} {p} {q} {r} s t =
     (t .written ∙ rw (s .written, s .past) (over-right a p xs ys (omega (arith, s .room))))
     (omega (arith, length-append xs ys, s .past, t .past))
 
+-- no second outcome: the same text at the same place leaves the same bytes and the same place after it
+pub record SamePut (after after′ : List ℕ) (next next′ : ℕ) : Type 0 where
+  pub bytes : after ≡ after′
+  pub places : next ≡ next′
+
+pub put-unique : {a b c text : List ℕ} {p q r : ℕ} → Put a p text b q → Put a p text c r → SamePut b c q r
+put-unique s t = record { bytes = s .written ∙ sym (t .written); places = s .past ∙ sym (t .past) }
+
 pub put-nothing : (before : List ℕ) (at : ℕ) → at ≤ length before → Put before at [] before at
 put-nothing before at h = puts before at [] before at (omega arith) (sym (over-nothing before at)) (omega arith)
 

@@ -1,5 +1,5 @@
--- Laws of a step: the line of an answer, a request's outcome from its change and its line, and that no line is too long.
--- Assumes nothing.
+-- Laws of a step: the line of an answer, a request's outcome from its change and its line, that no line is too long, and that there
+-- is no second outcome. Assumes nothing.
 use Prim.Native.Nat.{ℕ, zero, suc, _≤_}
 use mathlib.Core.Path.{_≡_, refl, ap}
 use mathlib.Core.Bool.{cond}
@@ -14,7 +14,8 @@ use Rattle.rules.specs.Change.{Tables}
 use Rattle.questions.specs.Question.{overlapsRule}
 use Rattle.lines.specs.Line.{noLine, longestLine, lineBytes}
 use Rattle.lines.proofs.Lines.{line-short}
-use Rattle.runs.specs.Step.{ran, answerLine, changedRan, runRule, stepRule, changeRule, askedLine}
+use Rattle.runs.specs.Step.{ran, stepOutcome, answerLine, changedRan, runRule, stepRule, changeRule, askedLine}
+use Rattle.runs.specs.declared.Stepped.{Stepped}
 use Rattle.lines.specs.declared.Line.{Line}
 use Rattle.lines.specs.declared.Line.the-variants as line
 use Rattle.requests.specs.Request.{requestOf}
@@ -115,3 +116,22 @@ run-short t request.Bad = line-short line.Bad
 pub step-short : (t : Tables) (bytes : List ℕ) → length (stepRule t bytes .line) ≤ longestLine
 unfolding stepRule
 step-short t bytes = run-short t (requestOf bytes)
+
+-- ---- no second outcome
+
+-- the counts, every word of both tables and the bytes of the lines
+pub record SameStep (r s : Stepped) (areas areas′ pages pages′ : List ℕ) : Type 0 where
+  pub counts : r .count ≡ s .count
+  pub area-words : areas ≡ areas′
+  pub page-entries : pages ≡ pages′
+  pub lines : lineBytes (r .line) ≡ lineBytes (s .line)
+
+pub step-unique : (r s : Stepped) (areas areas′ pages pages′ : List ℕ) → stepOutcome r areas pages ≡ stepOutcome s areas′ pages′
+    → SameStep r s areas areas′ pages pages′
+step-unique r s areas areas′ pages pages′ e =
+    record {
+      counts = λ i. e i .tables .count;
+      area-words = λ i. e i .tables .areas;
+      page-entries = λ i. e i .tables .pages;
+      lines = λ i. e i .line;
+    }

@@ -82,7 +82,7 @@ fn ask(areas: &[u64], pages: &[u32], count: usize, request: Request) -> Line
             limit,
             align,
         } => {
-            let placed = questions::find_free_area(
+            let placed = free_area::find_free_area(
                 areas,
                 pages,
                 count,

@@ -5,6 +5,7 @@ use audits::Verdict;
 use audits::audit;
 use dumps::ENTRY;
 use dumps::HEADER;
+use dumps::LONGEST;
 use dumps::WORD;
 use dumps::dump;
 use libc::STDIN_FILENO;
@@ -13,8 +14,8 @@ use stream::AREA_WORDS;
 use stream::PAGES;
 use stream::take_input;
 
-// The longest legal dump has 24,592 bytes; a byte more shows that this one is longer, and the rest is not read.
-const ENOUGH: usize = 24593;
+// A byte more than the longest dump has shows that this one is longer, and the rest is not read.
+const ENOUGH: usize = LONGEST + 1;
 
 // A word and a place, as a line.
 fn say_place(word: &[u8], place: usize) -> bool {

@@ -5,12 +5,12 @@ use area_list::capacity;
 use changes::find_gap;
 use changes::no_parts;
 use changes::sides;
-use changes::wipe_areas;
 use good_tables::good;
 use page_table::PAGE;
 use questions::range_answer;
 use rules::Changed;
 use slots::splice;
+use wipes::wipe_areas;
 ghost use mathlib.Core.Path.{_≡_};
 ghost use Rattle.rules.specs.Change.{changedOutcome, unmapRule, clearRule};
 

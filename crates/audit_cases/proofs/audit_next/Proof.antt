@@ -24,17 +24,17 @@ word32-requires c κs = search needs
 cast-length : tie.Need-cast-length
 cast-length c = search needs
 
-returns-2 : tie.Need-returns-2
-returns-2 c = search needs
-
 large-buffer-requires : tie.Need-large-buffer-requires
 large-buffer-requires c κs = search needs
+
+returns-2 : tie.Need-returns-2
+returns-2 c = search needs
 
 array-borrow-prefix-bytes : tie.Need-array-borrow-prefix-bytes
 array-borrow-prefix-bytes c = search needs
 
 slice-aggregate-audit-part : tie.Need-slice-aggregate-audit-part
-slice-aggregate-audit-part c = sym (length-take-le _ _ (omega (arith, c .before .large-buffer .ensures)))
+slice-aggregate-audit-part c = sym (length-take-le _ _ (omega (arith, c .before .before .large-buffer .ensures)))
 
 audit-part-requires : tie.Need-audit-part-requires
 audit-part-requires c κs = search needs
@@ -52,8 +52,8 @@ audit-next-spec =
     slice-aggregate-word32
     word32-requires
     cast-length
-    returns-2
     large-buffer-requires
+    returns-2
     array-borrow-prefix-bytes
     slice-aggregate-audit-part
     audit-part-requires

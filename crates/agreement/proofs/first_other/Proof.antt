@@ -5,11 +5,11 @@ use mathlib.Core.Path.{_≡_, refl, sym, _∙_}
 use native.Mathlib.Omega.{arith}
 use borrow.Author.Needs.{needs}
 use Rattle.page_table.specs.Entry.{entryOf}
-use Rattle.audits.specs.Agree.{differs, lowestIn}
-use Rattle.audits.proofs.Lowest.{lowest-ends}
-use Rattle.audits.proofs.Agreeing.{first-differs, first-same}
-use Rattle.audits.proofs.first_other.Statement.{statement}
-use Rattle.audits.proofs.first_other.Tie as tie
+use Rattle.agreement.specs.Agree.{differs, lowestIn}
+use Rattle.agreement.proofs.Lowest.{lowest-ends}
+use Rattle.agreement.proofs.Agreeing.{first-differs, first-same}
+use Rattle.agreement.proofs.first_other.Statement.{statement}
+use Rattle.agreement.proofs.first_other.Tie as tie
 
 abbrev Inv-loop : tie.InvT-loop
 Inv-loop pages first end flags backend page₀ page = lowestIn (differs (entryOf backend flags) pages) first end ≡ lowestIn (differs (entryOf backend flags) pages) page end

@@ -18,8 +18,8 @@ use Rattle.area.specs.declared.Area.{Area}
 use Rattle.area_list.specs.Good.{spaceOf}
 use Rattle.area_list.proofs.Ordered.{Ordered, one-more, starts-past}
 use Rattle.history.proofs.Lookups.{held, held-not-yet, held-no-more, holding}
-use Rattle.audits.specs.Agree.{differs, unmapped, disagrees, lowestIn, firstWrong, Agrees}
-use Rattle.audits.proofs.Lowest.{lowest-here, lowest-later, lowest-same, lowest-stops, lowest-past}
+use Rattle.agreement.specs.Agree.{differs, unmapped, disagrees, lowestIn, firstWrong, Agrees}
+use Rattle.agreement.proofs.Lowest.{lowest-here, lowest-later, lowest-same, lowest-stops, lowest-past}
 
 -- ---- page by page
 

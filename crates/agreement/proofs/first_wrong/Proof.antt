@@ -10,9 +10,9 @@ use Rattle.area_list.specs.Layout.{rows}
 use Rattle.area_list.proofs.Goodness.{tables-are}
 use Rattle.area_list.proofs.Positions.{sorted}
 use Rattle.area_list.proofs.Rows.{length-rows}
-use Rattle.audits.proofs.Agreeing.{Looked, look-begins, ends, stops-before, stops-inside, look-on, look-ends}
-use Rattle.audits.proofs.first_wrong.Statement.{statement}
-use Rattle.audits.proofs.first_wrong.Tie as tie
+use Rattle.agreement.proofs.Agreeing.{Looked, look-begins, ends, stops-before, stops-inside, look-on, look-ends}
+use Rattle.agreement.proofs.first_wrong.Statement.{statement}
+use Rattle.agreement.proofs.first_wrong.Tie as tie
 
 abbrev Inv-loop : tie.InvT-loop
 Inv-loop areas pages count page₀ slot₀ page slot = Looked (rows areas count) pages slot page

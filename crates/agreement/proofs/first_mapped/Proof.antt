@@ -3,11 +3,11 @@
 use Prim.Native.Nat.{_-_}
 use mathlib.Core.Path.{_≡_, refl, sym, _∙_}
 use native.Mathlib.Omega.{arith}
-use Rattle.audits.specs.Agree.{differs, unmapped, lowestIn}
-use Rattle.audits.proofs.Lowest.{lowest-ends}
-use Rattle.audits.proofs.Agreeing.{first-differs, first-same}
-use Rattle.audits.proofs.first_mapped.Statement.{statement}
-use Rattle.audits.proofs.first_mapped.Tie as tie
+use Rattle.agreement.specs.Agree.{differs, unmapped, lowestIn}
+use Rattle.agreement.proofs.Lowest.{lowest-ends}
+use Rattle.agreement.proofs.Agreeing.{first-differs, first-same}
+use Rattle.agreement.proofs.first_mapped.Statement.{statement}
+use Rattle.agreement.proofs.first_mapped.Tie as tie
 
 abbrev Inv-loop : tie.InvT-loop
 Inv-loop pages first end page₀ page = lowestIn (differs unmapped pages) first end ≡ lowestIn (differs unmapped pages) page end

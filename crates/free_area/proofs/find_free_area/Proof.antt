@@ -3,9 +3,9 @@ use borrow.Author.Needs.{needs}
 use mathlib.Core.Path.{_≡_, _∙_, sym}
 use borrow.Author.Tests.{eqb-true, eqb-false, not-true, not-false}
 use Rattle.area.specs.Answer.{number}
 use Rattle.questions.proofs.Questions.{search-asks, placed-refused, placed-at, placed-nowhere}
-use Rattle.questions.proofs.find_free_area.Statement.{statement}
-use Rattle.questions.proofs.find_free_area.Tie as tie
+use Rattle.free_area.proofs.find_free_area.Statement.{statement}
+use Rattle.free_area.proofs.find_free_area.Tie as tie
 
 search-answer-requires : tie.Need-search-answer-requires
 search-answer-requires c κs = search needs

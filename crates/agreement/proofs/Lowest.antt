@@ -7,7 +7,7 @@ use native.Mathlib.Omega.{arith}
 use native.Mathlib.Numerals.{add-one}
 use Rattle.lists.specs.Every.{lowestOf}
 use Rattle.lists.proofs.Every.{by-test}
-use Rattle.audits.specs.Agree.{lowestIn}
+use Rattle.agreement.specs.Agree.{lowestIn}
 
 -- ---- a loop
 

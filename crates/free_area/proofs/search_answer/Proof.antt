@@ -7,9 +7,9 @@ use lib.ListN.{length}
 use borrow.Author.Tests.{not-true, not-false}
 use Rattle.area_list.specs.Good.{goodTables}
 use Rattle.search.specs.Free.{isPowerOfTwo}
 use Rattle.questions.proofs.Questions.{search-bad, align-no-power, align-small, size-zero, limit-turned, size-uneven, search-passes}
-use Rattle.questions.proofs.search_answer.Statement.{statement}
-use Rattle.questions.proofs.search_answer.Tie as tie
+use Rattle.free_area.proofs.search_answer.Statement.{statement}
+use Rattle.free_area.proofs.search_answer.Tie as tie
 
 good-requires : tie.Need-good-requires
 good-requires c κs = search needs

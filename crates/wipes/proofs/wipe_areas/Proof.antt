@@ -14,8 +14,8 @@ use Rattle.area_list.proofs.Goodness.{tables-are}
 use Rattle.area_list.proofs.Positions.{sorted}
 use Rattle.effects.specs.Pages.{wipesArea, cutPages}
 use Rattle.effects.proofs.Sweeping.{Swept, sweep-begins, sweep-goes-on, sweep-ends, sweep-stops}
-use Rattle.changes.proofs.wipe_areas.Statement.{statement}
-use Rattle.changes.proofs.wipe_areas.Tie as tie
+use Rattle.wipes.proofs.wipe_areas.Statement.{statement}
+use Rattle.wipes.proofs.wipe_areas.Tie as tie
 
 abbrev Inv-loop : tie.InvT-loop
 Inv-loop areas pages₀ count low high slot₀ pages slot =
