@@ -1,5 +1,5 @@
 -- How areas lie in the lent words (01: "The lent area table holds four u64 words an area: start, end, flags, backend"). Nothing
--- above this crate names a word. Laws: `proofs/Rows.antt`. Assumes nothing.
+-- above this crate, good_tables, positions and slots names a word. Laws: `proofs/Rows.antt`. Assumes nothing.
 use Prim.Native.Nat.{ℕ, zero, suc, _+_, _-_, _*_, _/_, _^_, _≤_, min}
 use mathlib.Core.Path.{_≡_}
 use mathlib.Core.Bool.{Bool, true, _&&_, _||_, cond}
