@@ -1,0 +1,4 @@
+// The audit program on the longest dump with a byte more.
+fn main() {
+    service::audit_input();
+}
