@@ -1,4 +1,6 @@
 // Whether the page table agrees with the areas: the lowest page whose entry is not what its area says, or not 0 where no area lies.
+#![tactic(auto)]
+
 ghost use Rattle.std.specs.Prelude.{◌≡◌, true, ◌≤◌, length};
 ghost use Rattle.page_table.specs.Entry.{entry_of};
 ghost use Rattle.area_list.specs.Layout.{rows};

@@ -1,5 +1,7 @@
 // One area of a plug-in's space, by value: when it is good, and its parts. Nothing here touches a table; whoever takes pages off
 // an area wipes their entries.
+#![tactic(auto)]
+
 ghost use Rattle.std.specs.Prelude.{◌≡◌, ◌-◌, eqb};
 ghost use Rattle.area.specs.Answer.{number};
 ghost use Rattle.area.specs.Area.{good_area, part, nothing};

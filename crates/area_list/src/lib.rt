@@ -1,6 +1,8 @@
 // The lent area table, a sorted list of areas as words: how the words lie, and the reading of one area. Over it stand three crates
 // that know the words too: good_tables tests the tables, positions finds areas, slots puts areas in the place of others. Nothing
 // above those names a word.
+#![tactic(auto)]
+
 ghost use Rattle.std.specs.Prelude.{◌≡◌, true, ◌+◌, ◌*◌, ◌<◌, ◌≤◌, length, get_or};
 ghost use Rattle.area.specs.Area.{nothing};
 ghost use Rattle.area_list.specs.Layout.{words_per_area, capacity_of, row_at, area_of, legal_word, backend_of, word_of, LegalRow, rows};

@@ -1,4 +1,6 @@
 // Audits many dumps: standard input has each as its length, four bytes with the lowest first, and then its bytes.
+#![tactic(auto)]
+
 use libc::STDIN_FILENO;
 
 // Reads a dump that fills the part, and says its verdict.

@@ -1,4 +1,6 @@
 // The audit program on the longest dump with a byte more.
+#![tactic(auto)]
+
 fn main() {
     service::audit_input();
 }

@@ -1,5 +1,7 @@
 // An audit for the service desk: whether a dump of both tables is good, and if not, what is the first thing wrong with it.
 // How a dump lies is said in the crate dumps.
+#![tactic(auto)]
+
 ghost use Rattle.std.specs.Prelude.{◌≡◌, ◌+◌, ◌*◌, ◌≤◌, length};
 ghost use Rattle.page_table.specs.Limits.{max_pages};
 ghost use Rattle.area_list.specs.Layout.{capacity_of};

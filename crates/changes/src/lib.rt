@@ -1,5 +1,7 @@
 // The work of map and unmap on the list, for good tables and arguments that have been tested: which slots a range cuts, and what
 // takes their place.
+#![tactic(auto)]
+
 ghost use Rattle.std.specs.Prelude.{◌≡◌, true, false, not, ◌&&◌, ◌<◌, [], ◌∷◌, ◌++◌, drop};
 ghost use Rattle.area_list.specs.Layout.{rows};
 ghost use Rattle.area_list.specs.Position.{SortedRows};

@@ -1,4 +1,6 @@
 // An area's own operations: splitting it, and shrinking it from the left or the right. Each is refused with the area unchanged.
+#![tactic(auto)]
+
 ghost use Rattle.std.specs.Prelude.{◌≡◌};
 ghost use Rattle.area.specs.Answer.{number};
 ghost use Rattle.cuts.specs.Cut.{cut_answer, split_outcome, split_rule, shrunk_outcome, shrink_left_rule, shrink_right_rule};

@@ -4,6 +4,8 @@
 //    [ count | P | words of the areas | entries of the pages ]
 //
 // It is bytes; its numbers are little-endian, entries four bytes long and all others eight.
+#![tactic(auto)]
+
 ghost use Rattle.std.specs.Prelude.{◌≡◌, ◌+◌, ◌*◌, ◌≤◌, length};
 ghost use Rattle.lists.specs.Over.{over};
 ghost use Rattle.area.specs.Answer.{number, reply};

@@ -3,6 +3,8 @@
 //
 // Each contract equates everything that a caller sees with the call's rule in the crates questions and rules, so no second outcome
 // meets it (`one-reply`, proofs/Numbers.antt).
+#![tactic(auto)]
+
 ghost use Rattle.std.specs.Prelude.{◌≡◌, [], ◌∷◌};
 ghost use Rattle.area.specs.Answer.{reply};
 ghost use Rattle.questions.specs.Question.{len_rule, empty_rule, overlaps_rule, find_rule, free_area_rule};

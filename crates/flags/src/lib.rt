@@ -1,5 +1,7 @@
 // The flags that protect gives, and what becomes of the entries of the pages in its range, for good tables and arguments that
 // have been tested.
+#![tactic(auto)]
+
 ghost use Rattle.std.specs.Prelude.{◌≡◌, true, min, max, ◌/◌, ◌≤◌, length};
 ghost use Rattle.lists.specs.Each.{within};
 ghost use Rattle.page_table.specs.Limits.{page_size, max_flags};

@@ -1,5 +1,7 @@
 // The call `find_free_area`. Both tables and the count are lent; the tables are tested before anything else, and the answers are
 // document 01's numbers in the search's own order.
+#![tactic(auto)]
+
 ghost use Rattle.std.specs.Prelude.{◌≡◌};
 ghost use Rattle.area.specs.Answer.{number};
 ghost use Rattle.questions.specs.Question.{search_answer, placed_outcome, free_area_rule};

@@ -1,4 +1,6 @@
 // Whether the lent tables are good: the test that every call makes first, in one pass over the words of the areas.
+#![tactic(auto)]
+
 ghost use Rattle.std.specs.Prelude.{◌≡◌, ◌≤◌, length};
 ghost use Rattle.page_table.specs.Limits.{max_pages};
 ghost use Rattle.area_list.specs.Layout.{capacity_of};

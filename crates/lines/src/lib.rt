@@ -1,4 +1,6 @@
 // The lines of the answers, written into a buffer. Every line starts with its fixed word and ends with byte 10.
+#![tactic(auto)]
+
 ghost use Rattle.std.specs.Prelude.{◌≡◌, ◌+◌, ◌≤◌, ◌<◌, length, take, [], ◌∷◌, ◌++◌};
 ghost use Rattle.lines.specs.Line.{digit, hex, longest_line, range_length, range_bytes, tail_bytes, line_bytes, Put};
 

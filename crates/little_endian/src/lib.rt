@@ -1,4 +1,6 @@
 // Numbers in bytes, the lowest byte first.
+#![tactic(auto)]
+
 ghost use Rattle.std.specs.Prelude.{◌≡◌, ◌+◌, ◌^◌, ◌≤◌, ◌<◌, length};
 ghost use Rattle.little_endian.specs.Number.{number_at};
 

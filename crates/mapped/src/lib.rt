@@ -1,5 +1,7 @@
 // The number of pages under areas, counted along a walk. `mapped_pages` has plain parameters: whoever calls it needs no proof by
 // hand, as the functions over a `Walk` do.
+#![tactic(auto)]
+
 ghost use Rattle.std.specs.Prelude.{◌≡◌};
 ghost use Rattle.mapped.specs.Mapped.{is_none, pages_in, mapped_outcome, mapped_rule};
 

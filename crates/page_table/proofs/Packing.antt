@@ -1,6 +1,6 @@
 -- Laws of entries: what was packed is taken apart again, a packed entry has bits 6 and 7 clear and is never 0, and what an
 -- area's entry says of its page. Assumes nothing.
-use Rattle.std.proofs.Common.{◌≡◌, ℕ, ◌*◌, ◌^◌, ◌<◌, ◌≤◌, Bool, true, false, cond, sym, refl, ◌∙◌, arith, eq-eqb}
+use Rattle.std.proofs.Common.{eqb, ◌≡◌, ℕ, ◌*◌, ◌^◌, ◌<◌, ◌≤◌, Bool, true, false, cond, sym, refl, ◌∙◌, arith, eq-eqb}
 use Rattle.page_table.specs.Limits.{frame_limit, max_flags}
 use Rattle.page_table.specs.Entry.{bits, packed_of, flags_of, is_mapped, is_lazy, frame_of, linear_frame, entry_of}
 use Rattle.page_table.specs.declared.Backend.{Backend}
@@ -9,7 +9,7 @@ use Rattle.page_table.specs.declared.Backend.TheVariants.{Lazy, Linear}
 module _ (flags : ℕ) (lazy : Bool) (frame : ℕ) where
   -- bit 5, by its weight
   weight : cond lazy (2 ^ 5) 0 ≡ 32 * cond lazy 1 0
-  weight = elim lazy [ true ↦ refl | false ↦ refl ]
+  weight = elim lazy as (λ b. cond b (2 ^ 5) 0 ≡ 32 * cond b 1 0) [ true ↦ refl | false ↦ refl ]
 
   one : cond lazy 1 0 < 2
   one = elim lazy as (λ (b : Bool). cond b 1 0 < 2) [ true ↦ omega arith | false ↦ omega arith ]
@@ -29,7 +29,7 @@ module _ (flags : ℕ) (lazy : Bool) (frame : ℕ) where
 
   pub packed_lazy : is_lazy (packed_of flags lazy frame) ≡ lazy
   unfolding is_lazy
-  packed_lazy = rw lazy_bit (elim lazy [ true ↦ refl | false ↦ refl ])
+  packed_lazy = rw lazy_bit (elim lazy as (λ (b : Bool). eqb (cond b 1 0) 1 ≡ b) [ true ↦ refl | false ↦ refl ])
 
   pub packed_frame : frame < frame_limit → frame_of (packed_of flags lazy frame) ≡ frame
   unfolding packed_of frame_of

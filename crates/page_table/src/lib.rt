@@ -1,5 +1,7 @@
 // The lent page table, one u32 a page: what an entry is, and what a backend says of a page. The operations that change entries are
 // in page_writes. Everything above those two works against their promises alone and never looks into an entry.
+#![tactic(auto)]
+
 ghost use Rattle.std.specs.Prelude.{◌≡◌};
 ghost use Rattle.page_table.specs.Entry.{linear_frame, entry_of};
 ghost use Rattle.page_table.specs.Frames.{frames_fit, backend_fits};

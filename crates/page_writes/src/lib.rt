@@ -1,5 +1,7 @@
 // The three operations that change entries of the page table. Every function is total: a range may be empty, run backwards or go
 // past the table, and only the pages that the table has are touched.
+#![tactic(auto)]
+
 ghost use Rattle.std.specs.Prelude.{◌≡◌, min};
 ghost use Rattle.lists.specs.Each.{within};
 ghost use Rattle.page_writes.specs.Change.{writes, wipes, reflags};

@@ -1,4 +1,6 @@
 // Positions in the list of areas, found by binary search over the starts or the ends.
+#![tactic(auto)]
+
 ghost use Rattle.std.specs.Prelude.{◌≡◌};
 ghost use Rattle.area_list.specs.Layout.{rows};
 ghost use Rattle.area_list.specs.Position.{SortedRows, Rising, Boundary, first_where, ends_past, starts_from, contains};

@@ -1,4 +1,6 @@
 // The work of protect on the list, for good tables and arguments that have been tested: how it splits areas and flags them.
+#![tactic(auto)]
+
 ghost use Rattle.std.specs.Prelude.{◌≡◌, true, map, ◌+◌, ◌≤◌, ◌<◌, length};
 ghost use Rattle.page_table.specs.Limits.{max_pages, max_flags};
 ghost use Rattle.area_list.specs.Layout.{capacity_of, rows};

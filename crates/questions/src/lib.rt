@@ -1,6 +1,8 @@
 // The calls of the memory set that ask and change nothing, and what each answers; the code of the search for room is in free_area.
 // Both tables and the count are lent to every call; each tests that the tables are good before anything else, and answers with
 // document 01's numbers in 01's order.
+#![tactic(auto)]
+
 ghost use Rattle.std.specs.Prelude.{◌≡◌};
 ghost use Rattle.area.specs.Answer.{number};
 ghost use Rattle.questions.specs.Tests.{range_answer};

@@ -1,4 +1,6 @@
 // Document 01's record program: requests from standard input, a line for each to standard output, and at the end the areas.
+#![tactic(auto)]
+
 fn main() {
     stream::record();
 }

@@ -1,4 +1,6 @@
 // The record program's work, on bytes in lent buffers: a piece of input cut anywhere, the lines of its records, and the areas at the end.
+#![tactic(auto)]
+
 ghost use Rattle.std.specs.Prelude.{◌≡◌, ◌+◌, ◌*◌, ◌<◌, ◌≤◌, length, take};
 ghost use Rattle.area.specs.Answer.{number, reply};
 ghost use Rattle.area_list.specs.Layout.{rows};

@@ -2,6 +2,8 @@
 //
 //     0    1       2       3         4       8       16     24
 //    [ op | flags | clear | backend | delta | start | size | limit ]
+#![tactic(auto)]
+
 ghost use Rattle.std.specs.Prelude.{◌≡◌, ◌^◌, ◌≤◌, ◌<◌, cond, eqb, length};
 ghost use Rattle.requests.specs.Request.{record_size, fields_of, Blank, beside_range, map_by, search_by, request_by, request_of};
 

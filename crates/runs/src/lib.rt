@@ -1,4 +1,6 @@
 // One record of the record program, run on the tables: the call of the set that it asks for, and the line of the answer.
+#![tactic(auto)]
+
 ghost use Rattle.std.specs.Prelude.{◌≡◌, cond};
 ghost use Rattle.area.specs.Answer.{number};
 ghost use Rattle.rules.specs.Change.{tables, changed_outcome};

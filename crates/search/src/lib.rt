@@ -1,4 +1,6 @@
 // The search for free room: the lowest address that fits, found in one pass over the areas.
+#![tactic(auto)]
+
 ghost use Rattle.std.specs.Prelude.{◌≡◌, true, ◌+◌, ◌^◌, ◌<◌};
 ghost use Rattle.area_list.specs.Layout.{rows};
 ghost use Rattle.area_list.specs.Good.{good_tables, space_of};

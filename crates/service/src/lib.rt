@@ -1,5 +1,7 @@
 // The service desk's programs: the audit of a dump, and the dump of what requests leave. What matters is in the
 // crates audits and dumps.
+#![tactic(auto)]
+
 use area_list::WORDS;
 use audits::{Verdict, audit};
 use dumps::{ENTRY, HEADER, LONGEST, WORD, dump};

@@ -1,5 +1,7 @@
 // Moving slots: the one way in which the list of areas changes. The tail moves once, the new areas are written, and slots
 // that are not used any more become 0.
+#![tactic(auto)]
+
 ghost use Rattle.std.specs.Prelude.{◌≡◌, ◌+◌, ◌-◌, ◌*◌, ◌≤◌, ◌<◌, length, take, drop, replicate};
 ghost use Rattle.lists.specs.Over.{over};
 ghost use Rattle.area_list.specs.Layout.{words_per_area, words_of, rows};

@@ -1,5 +1,7 @@
 // Standard input to standard output, block by block in constant memory. No contract can say what is read or written, so what
 // matters is in the crate records; here is shown that no block is ever refused.
+#![tactic(auto)]
+
 ghost use Rattle.std.specs.Prelude.{◌≡◌, ◌<◌, length};
 ghost use Rattle.requests.specs.Request.{record_size};
 

@@ -1,5 +1,7 @@
 // The calls `unmap` and `clear`. Both tables and the count are lent; the tables are tested before anything else, and the answers
 // are document 01's numbers in 01's order.
+#![tactic(auto)]
+
 ghost use Rattle.std.specs.Prelude.{◌≡◌};
 ghost use Rattle.rules.specs.Change.{changed_outcome, unmap_rule, clear_rule};
 

@@ -1,4 +1,6 @@
 // What a range of addresses unmaps, for good tables and a range that has been tested: the pages that lie in areas and in the range.
+#![tactic(auto)]
+
 ghost use Rattle.std.specs.Prelude.{◌≡◌, true, min, max, length};
 ghost use Rattle.area_list.specs.Layout.{rows};
 ghost use Rattle.area_list.specs.Good.{good_tables};

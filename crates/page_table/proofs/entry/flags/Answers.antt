@@ -2,12 +2,8 @@
 use Rattle.std.proofs.Common.{◌∙◌, arith}
 use lib.Bits.{and_mask}
 use Rattle.page_table.specs.Entry.{flags_of}
-use Rattle.page_table.proofs.entry.flags.Statement.{statement}
-use Rattle.page_table.proofs.entry.flags.Tie as tie
+use Rattle.page_table.proofs.entry.flags.Goals as goal
 
-returns : tie.Need-returns
+pub returns : goal.returns
 unfolding flags_of
 returns c = and_mask c.args.entry 4 ∙ omega arith
-
-pub flags_spec : {M : Type 1} → statement M
-flags_spec = tie.close (tie.spec returns)

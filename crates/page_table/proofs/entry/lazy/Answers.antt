@@ -1,12 +1,8 @@
 -- `entry::lazy` meets its contract: the mask of bit 5 tells whether it is set. Assumes nothing.
 use Rattle.page_table.specs.Entry.{is_lazy}
 use Rattle.page_table.proofs.Masks.{bit_test}
-use Rattle.page_table.proofs.entry.lazy.Statement.{statement}
-use Rattle.page_table.proofs.entry.lazy.Tie as tie
+use Rattle.page_table.proofs.entry.lazy.Goals as goal
 
-returns : tie.Need-returns
+pub returns : goal.returns
 unfolding is_lazy
 returns c = bit_test c.args.entry 5
-
-pub lazy_spec : {M : Type 1} → statement M
-lazy_spec = tie.close (tie.spec returns)

@@ -1,12 +1,8 @@
 -- `entry::mapped` meets its contract: the mask of bit 4 tells whether it is set. Assumes nothing.
 use Rattle.page_table.specs.Entry.{is_mapped}
 use Rattle.page_table.proofs.Masks.{bit_test}
-use Rattle.page_table.proofs.entry.mapped.Statement.{statement}
-use Rattle.page_table.proofs.entry.mapped.Tie as tie
+use Rattle.page_table.proofs.entry.mapped.Goals as goal
 
-returns : tie.Need-returns
+pub returns : goal.returns
 unfolding is_mapped
 returns c = bit_test c.args.entry 4
-
-pub mapped_spec : {M : Type 1} → statement M
-mapped_spec = tie.close (tie.spec returns)
