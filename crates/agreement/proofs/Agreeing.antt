@@ -133,14 +133,14 @@ module _ (entries : List ℕ) (page : ℕ) where
 
   pub agrees_is : {space before : ℕ} (xs : List Area) → Ordered space before xs → disagrees xs entries page ≡ false → Agrees xs entries page
   unfolding disagrees
-  agrees_is [] o e = record { in_area = λ slot l h. absurd (omega arith); in-none = λ h. same_entry unmapped e }
+  agrees_is [] o e = record { in_area = λ slot l h. absurd (omega arith); in_none = λ h. same_entry unmapped e }
   agrees_is (a ∷ xs) (one_more g b o) e =
       by_test (holds a page)
       (λ h. alone h (same_entry (area_entry a) (rw h at e)))
       (λ h. later_on h (agrees_is xs o (rw h at e)))
     where
       alone : holds a page ≡ true → get_or entries page 0 ≡ area_entry a page → Agrees (a ∷ xs) entries page
-      alone h is = record { in_area = first_one; in-none = λ none. absurd (true≢false (sym h ∙ none 0 (omega arith))) }
+      alone h is = record { in_area = first_one; in_none = λ none. absurd (true≢false (sym h ∙ none 0 (omega arith))) }
         where
           first_one : (slot : ℕ) → slot < length (a ∷ xs) → holds (get_or (a ∷ xs) slot nothing) page ≡ true
               → get_or entries page 0 ≡ area_entry (get_or (a ∷ xs) slot nothing) page
@@ -148,7 +148,7 @@ module _ (entries : List ℕ) (page : ℕ) where
           first_one (suc slot) l y = absurd (true≢false (sym y ∙ not_later xs o (holding a page h).upto slot (omega arith)))
 
       later_on : holds a page ≡ false → Agrees xs entries page → Agrees (a ∷ xs) entries page
-      later_on h r = record { in_area = second_one; in-none = λ none. r.in-none (λ slot l. none (suc slot) (omega arith)) }
+      later_on h r = record { in_area = second_one; in_none = λ none. r.in_none (λ slot l. none (suc slot) (omega arith)) }
         where
           second_one : (slot : ℕ) → slot < length (a ∷ xs) → holds (get_or (a ∷ xs) slot nothing) page ≡ true
               → get_or entries page 0 ≡ area_entry (get_or (a ∷ xs) slot nothing) page
@@ -157,7 +157,7 @@ module _ (entries : List ℕ) (page : ℕ) where
 
   pub is_agrees : (xs : List Area) → Agrees xs entries page → disagrees xs entries page ≡ false
   unfolding disagrees
-  is_agrees [] a = entry_same unmapped (a.in-none (λ slot l. absurd (omega arith)))
+  is_agrees [] a = entry_same unmapped (a.in_none (λ slot l. absurd (omega arith)))
   is_agrees (x ∷ xs) a =
       by_test (holds x page)
       (λ h. rw h (entry_same (area_entry x) (a.in_area 0 (omega arith) h)))
@@ -167,7 +167,7 @@ module _ (entries : List ℕ) (page : ℕ) where
       rest h =
           record {
             in_area = λ slot l y. a.in_area (suc slot) (omega arith) y;
-            in-none = λ none. a.in-none (cases none);
+            in_none = λ none. a.in_none (cases none);
           }
         where
           cases : ((slot : ℕ) → slot < length xs → holds (get_or xs slot nothing) page ≡ false)

@@ -10,7 +10,7 @@ use page_table::entry::FLAGS;
 use page_table::{Backend, PAGE};
 
 // What a call answers, by document 01's names and numbers.
-#[derive(Drop)]
+#[derive(Clone, Copy)]
 pub enum Answer {
     // 0
     Accepted,
@@ -54,7 +54,7 @@ impl Answer {
 }
 
 // The addresses from start up to end, with the same flags and backend.
-#[derive(Drop)]
+#[derive(Clone, Copy)]
 pub struct Area {
     pub start: u64,
     pub end: u64,

@@ -152,7 +152,7 @@ module _ (space : ℕ) where
   rows_legal before ws zero e i h = absurd (omega arith)
   rows_legal before ws (suc n) e zero h =
       let f = row_is space before (row_of ws) (and_left (good_row space before (row_of ws)) (good_rows space (row_of ws).end (drop words_per_area ws) n) e) in
-      record { flags-fit = f.good.flags-legal; word-legal = f.legal }
+      record { flags_fit = f.good.flags_legal; word_legal = f.legal }
   rows_legal before ws (suc n) e (suc i) h =
       rw (← slot_under ws i)
       (rows_legal (row_of ws).end (drop words_per_area ws) n
@@ -215,7 +215,7 @@ module _ (space : ℕ) (small : space < 2 ^ 64) where
   unfolding row_of
   row_fits before ws f zero h = omega (arith, f.good.nonempty, f.good.inside)
   row_fits before ws f (suc zero) h = omega (arith, f.good.inside)
-  row_fits before ws f (suc (suc zero)) h = omega (arith, f.good.flags-legal)
+  row_fits before ws f (suc (suc zero)) h = omega (arith, f.good.flags_legal)
   row_fits before ws f (suc (suc (suc zero))) h = omega (arith, legal_short (get_or ws 3 0) f.legal)
   row_fits before ws f (suc (suc (suc (suc k)))) h = absurd (omega arith)
 

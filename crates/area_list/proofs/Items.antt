@@ -31,7 +31,7 @@ module _ (ws : List ℕ) (count slot : ℕ) where
   pub item_some : HasArea ws count slot → item_at ws count slot ≡ Some (get_or (rows ws count) slot nothing)
   unfolding item_at every
   item_some h =
-      rw (lt-ltb slot count h.below, lt-ltb slot (capacity_of (length ws)) h.room, le-leb (row_at ws slot).flags max_flags h.legal.flags-fit, h.legal.word-legal)
+      rw (lt-ltb slot count h.below, lt-ltb slot (capacity_of (length ws)) h.room, le-leb (row_at ws slot).flags max_flags h.legal.flags_fit, h.legal.word_legal)
 
   has_area : every (slot_tests ws count slot) ≡ true → HasArea ws count slot
   has_area e =
@@ -39,8 +39,8 @@ module _ (ws : List ℕ) (count slot : ℕ) where
         below = ltb-true slot count (every_at (slot_tests ws count slot) 0 e);
         room = ltb-true slot (capacity_of (length ws)) (every_at (slot_tests ws count slot) 1 e);
         legal = record {
-          flags-fit = leb-true (row_at ws slot).flags max_flags (every_at (slot_tests ws count slot) 2 e);
-          word-legal = every_at (slot_tests ws count slot) 3 e;
+          flags_fit = leb-true (row_at ws slot).flags max_flags (every_at (slot_tests ws count slot) 2 e);
+          word_legal = every_at (slot_tests ws count slot) 3 e;
         };
       }
 
@@ -57,7 +57,7 @@ module _ (ws : List ℕ) (count slot : ℕ) where
   past_count h = item_none (λ a. omega (arith, a.below))
 
   pub good_item : {p : ℕ} → GoodTables ws count p → slot < count → item_at ws count slot ≡ Some (get_or (rows ws count) slot nothing)
-  good_item g h = item_some (record { below = h; room = omega (arith, g.count-few); legal = g.legal slot h })
+  good_item g h = item_some (record { below = h; room = omega (arith, g.count_few); legal = g.legal slot h })
 
 -- from the words that were read: a slot without an area, and one with it
 module _ (ws : List ℕ) (count slot : ℕ) (r : Row) (at : r ≡ row_at ws slot) where

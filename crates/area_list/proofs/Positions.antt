@@ -141,7 +141,7 @@ starting_zero ws count address z =
 pub sorted : {ws : List ℕ} {count p : ℕ} → GoodTables ws count p → SortedRows ws count
 sorted {ws} {count} {p} g =
     record {
-      room = count_fits ws count g.count-few;
+      room = count_fits ws count g.count_few;
       legal = g.legal;
       nonempty = λ i l. rw (rows_at ws count i l) at (good_at g.ordered i (omega (arith, length_rows ws count))).nonempty;
       starts = λ i j h l. rw (rows_at ws count i (omega arith), rows_at ws count j l) at (starts_rise g.ordered i j h (omega (arith, length_rows ws count)));

@@ -48,24 +48,24 @@ area_back a = rw (word_back a.backend)
 
 pub row_kept : {r : Row} → LegalRow r → words_of (area_of r) ≡ r.start ∷ r.end ∷ r.flags ∷ r.backend ∷ []
 unfolding words_of
-row_kept {r} l = rw (word_kept r.backend l.word-legal)
+row_kept {r} l = rw (word_kept r.backend l.word_legal)
 
 -- ---- which areas can be stored
 
 pub lazy_storable : {a : Area} → a.backend ≡ Lazy → Storable a
 unfolding word_of
-lazy_storable e = record { word-legal = rw e (lazy_legal 0 refl) }
+lazy_storable e = record { word_legal = rw e (lazy_legal 0 refl) }
 
 pub linear_storable : {a : Area} {delta : ℕ} → a.backend ≡ Linear delta → delta < 2 ^ 32 → Storable a
 unfolding word_of
 linear_storable {delta = delta} e h =
-    record { word-legal = rw e (linear_legal (2 ^ 32 + delta) (λ z. omega arith) (omega arith) ∙ lt-ltb (2 ^ 32 + delta) (2 ^ 33) (omega arith)) }
+    record { word_legal = rw e (linear_legal (2 ^ 32 + delta) (λ z. omega arith) (omega arith) ∙ lt-ltb (2 ^ 32 + delta) (2 ^ 33) (omega arith)) }
 
 pub part_storable : {a : Area} (start end : ℕ) → Storable a → Storable (part a start end)
-part_storable start end s = record { word-legal = s.word-legal }
+part_storable start end s = record { word_legal = s.word_legal }
 
 row_storable : {r : Row} → LegalRow r → Storable (area_of r)
-row_storable {r} l = record { word-legal = rw (word_kept r.backend l.word-legal) l.word-legal }
+row_storable {r} l = record { word_legal = rw (word_kept r.backend l.word_legal) l.word_legal }
 
 pub rows_storable : {ws : List ℕ} {count : ℕ} → SortedRows ws count → (i : ℕ) → i < count → Storable (get_or (rows ws count) i nothing)
 rows_storable {ws} {count} s i h = rw (rows_at ws count i h) (row_storable (s.legal i h))
@@ -163,7 +163,7 @@ module _ {space : ℕ} (rest : List ℕ) where
   good_flat {before} (one_more {a = a} {xs = xs} g b o) all =
       let row : Row = row_with a.start a.end a.flags (word_of a.backend) in
       and_both (good_row space before row) (good_rows space a.end (flat xs ++ rest) (length xs))
-      (area_decides space before row b (all 0 (omega arith)).word-legal ∙ ap (good_area space) (area_back a) ∙ is_good space a g)
+      (area_decides space before row b (all 0 (omega arith)).word_legal ∙ ap (good_area space) (area_back a) ∙ is_good space a g)
       (good_flat o (λ i h. all (suc i) (omega arith)))
 
 pub store_good : (list : List Area) (ws : List ℕ) (count p : ℕ) → p ≤ max_pages → length list ≤ capacity_of (length ws)

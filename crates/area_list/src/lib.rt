@@ -27,7 +27,7 @@ const LINEAR: u64 = 0x1_0000_0000;
 const LINEAR_END: u64 = 2 * LINEAR;
 
 // The words of one area, as they lie: any numbers at all.
-#[derive(Drop)]
+#[derive(Clone, Copy)]
 pub struct Row {
     pub start: u64,
     pub end: u64,
@@ -119,7 +119,7 @@ pub fn area_at(areas: &[u64], count: usize, slot: usize) -> Area
 }
 
 // What a slot has.
-#[derive(Drop)]
+#[derive(Clone, Copy)]
 pub enum Item {
     Some(Area),
     None,

@@ -48,15 +48,15 @@ pub sized_is : (bytes : List ℕ) → sized_dump bytes ≡ true → Sized bytes
 unfolding sized_dump
 sized_is bytes e =
     record {
-      few-areas = leb-true (count_in bytes) most_areas (every_at (size_tests bytes) 0 e);
-      few-pages = leb-true (pages_in bytes) most_pages (every_at (size_tests bytes) 1 e);
+      few_areas = leb-true (count_in bytes) most_areas (every_at (size_tests bytes) 0 e);
+      few_pages = leb-true (pages_in bytes) most_pages (every_at (size_tests bytes) 1 e);
       long = eqb-true (length bytes) (dump_length (count_in bytes) (pages_in bytes)) (every_at (size_tests bytes) 2 e);
     }
 
 pub is_sized : (bytes : List ℕ) → Sized bytes → sized_dump bytes ≡ true
 unfolding sized_dump every
 is_sized bytes s =
-    rw (le-leb (count_in bytes) most_areas s.few-areas, le-leb (pages_in bytes) most_pages s.few-pages)
+    rw (le-leb (count_in bytes) most_areas s.few_areas, le-leb (pages_in bytes) most_pages s.few_pages)
     (rw (eq-eqb (length bytes) (dump_length (count_in bytes) (pages_in bytes)) s.long))
 
 pub not_sized : (bytes : List ℕ) → (Sized bytes → ⊥) → sized_dump bytes ≡ false
@@ -80,25 +80,25 @@ module _ {bytes areas₀ pages₀ : List ℕ} {count : ℕ} (l : Lent bytes area
   facts = sized_is bytes l.sized
 
   pub words_room : header_size + word_size * length areas₀ ≤ length bytes
-  words_room = omega (arith, facts.long, l.areas-long, l.count-is)
+  words_room = omega (arith, facts.long, l.areas_long, l.count_is)
 
   pub entries_room : header_size + word_size * length areas₀ + entry_size * length pages₀ ≤ length bytes
-  entries_room = omega (arith, facts.long, l.areas-long, l.count-is, l.pages-long)
+  entries_room = omega (arith, facts.long, l.areas_long, l.count_is, l.pages_long)
 
   pub areas_few : count ≤ capacity_of (length areas₀)
   unfolding capacity_of
-  areas_few = omega (arith, facts.few-areas, l.areas-long, l.count-is)
+  areas_few = omega (arith, facts.few_areas, l.areas_long, l.count_is)
 
   pub pages_few : length pages₀ ≤ max_pages
-  pages_few = omega (arith, facts.few-pages, l.pages-long)
+  pages_few = omega (arith, facts.few_pages, l.pages_long)
 
   pub read_verdict : (at : ℕ) → at ≡ header_size + word_size * length areas₀ → (areas pages : List ℕ)
       → areas ≡ numbers_at bytes header_size word_size (length areas₀) → pages ≡ numbers_at bytes at entry_size (length pages₀)
       → tables_rule areas pages count ≡ audit_rule bytes
   unfolding audit_rule words_in entries_in
   read_verdict at here areas pages a p =
-      let long : length areas₀ ≡ words_per_area * count_in bytes = omega (arith, l.areas-long, l.count-is) in
-      rw (a, p, here, l.count-is, l.pages-long, long) (sym (rw l.sized))
+      let long : length areas₀ ≡ words_per_area * count_in bytes = omega (arith, l.areas_long, l.count_is) in
+      rw (a, p, here, l.count_is, l.pages_long, long) (sym (rw l.sized))
 
 -- the parts of the scratch tables that are lent to read a dump into
 abbrev zeros : ℕ → List ℕ
@@ -109,10 +109,10 @@ length_zeros n = length-replicate n 0
 
 module _ (bytes : List ℕ) (sized : sized_dump bytes ≡ true) (count pages : ℕ) (c : count ≡ count_in bytes) (p : pages ≡ pages_in bytes) where
   pub words_few : words_per_area * count ≤ words_per_area * most_areas
-  words_few = omega (arith, (sized_is bytes sized).few-areas)
+  words_few = omega (arith, (sized_is bytes sized).few_areas)
 
   pub entries_few : pages ≤ most_pages
-  entries_few = omega (arith, (sized_is bytes sized).few-pages)
+  entries_few = omega (arith, (sized_is bytes sized).few_pages)
 
   pub area_words_long : length (take (words_per_area * count) (zeros (words_per_area * most_areas))) ≡ words_per_area * count
   area_words_long = length-take-le (words_per_area * count) (zeros (words_per_area * most_areas)) (omega (arith, words_few, length_zeros (words_per_area * most_areas)))
@@ -121,7 +121,7 @@ module _ (bytes : List ℕ) (sized : sized_dump bytes ≡ true) (count pages : �
   entries_long = length-take-le pages (zeros most_pages) (omega (arith, entries_few, length_zeros most_pages))
 
   pub lent : Lent bytes (take (words_per_area * count) (zeros (words_per_area * most_areas))) (take pages (zeros most_pages)) count
-  lent = record { sized = sized; count-is = c; areas-long = area_words_long; pages-long = entries_long ∙ p }
+  lent = record { sized = sized; count_is = c; areas_long = area_words_long; pages_long = entries_long ∙ p }
 
 pub header_there : (bytes : List ℕ) → sized_dump bytes ≡ true → header_size ≤ length bytes
 header_there bytes sized = omega (arith, (sized_is bytes sized).long)

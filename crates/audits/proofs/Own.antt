@@ -76,12 +76,12 @@ module _ (t : Tables) (good : good_tables t.areas t.count (length t.pages) ≡ t
   dump_accepted agree =
       (audit_good (dump_of t)).1 (record {
         sized = record {
-          few-areas = rw count_is few-areas;
-          few-pages = rw pages_are few-pages;
+          few_areas = rw count_is few-areas;
+          few_pages = rw pages_are few-pages;
           long = rw (count_is, pages_are) (dump_long t good few-areas few-pages entries_fit);
         };
         good = rw (words_are, count_is, pages_are) (tables_taken t.areas t.count (length t.pages) good);
-        agree = λ page h. rw (words_are, count_is, entries_are, rows_taken t.areas t.count (count_fits t.areas t.count is_good.count-few))
+        agree = λ page h. rw (words_are, count_is, entries_are, rows_taken t.areas t.count (count_fits t.areas t.count is_good.count_few))
             (agrees_is t.pages page (rows t.areas t.count) is_good.ordered (agree page (rw pages_are at h)));
       })
 
@@ -97,15 +97,15 @@ module _ (areaWords p : ℕ) (few-pages : p ≤ most_pages) (cs : List Call) (le
   agree : (page : ℕ) → page < length left.pages → disagrees (rows left.areas left.count) left.pages page ≡ false
   agree page h =
       lookup_agrees (rows left.areas left.count) left.pages page
-      (rw (now.says page) (now.entries page (omega (arith, now.pages-long))))
+      (rw (now.says page) (now.entries page (omega (arith, now.pages_long))))
 
   -- with at most 256 areas
   pub own_within : left.count ≤ most_areas → audit_rule (dump_of left) ≡ Good
   own_within few =
-      dump_accepted left (rw now.pages-long now.good) few (omega (arith, now.pages-long))
+      dump_accepted left (rw now.pages_long now.good) few (omega (arith, now.pages_long))
       (λ page h. entry_fits (rows left.areas left.count) left.pages page (agree page h)) agree
 
   -- and there is never room for more
   pub own_accepted : audit_rule (dump_of left) ≡ Good
   unfolding capacity_of
-  own_accepted = own_within (omega (arith, (facts now).count-few))
+  own_accepted = own_within (omega (arith, (facts now).count_few))

@@ -64,10 +64,10 @@ module _ (bytes : List ℕ) where
 
     areas_few : count ≤ capacity_of (length words)
     unfolding capacity_of
-    areas_few = omega (arith, words_long, s.few-areas)
+    areas_few = omega (arith, words_long, s.few_areas)
 
     pages_few : length entries ≤ max_pages
-    pages_few = omega (arith, entries_long, s.few-pages)
+    pages_few = omega (arith, entries_long, s.few_pages)
 
     good_all : IsGoodDumped bytes → count ≤ bad_area
     good_all g =

@@ -91,7 +91,7 @@ module _ (xs : List Area) (low high from upto : ℕ) (n : low < high) (i : from 
   pub gap_is : (past : ℕ) → past ≡ upto + taken right → Cuts xs low high (record { low = from; high = past; left = left; right = right })
   gap_is past e =
       record {
-        low-is = i;
+        low_is = i;
         left_is = l;
         right_is = rw (e, ← k) r.trims;
         ordered = omega (arith, gap_ordered xs low high n);
@@ -104,12 +104,12 @@ module _ {space before : ℕ} (xs : List Area) (low high : ℕ) (o : Ordered spa
   -- without what the range cuts out
   pub gap_cut : (p : Parts) → Lays p (piece_of g.left ++ piece_of g.right) → spliced xs g.low g.high (parts_of p) ≡ cut low high xs
   gap_cut p l =
-      rw (l.areas, append_assoc (piece_of g.left) (piece_of g.right) (drop g.high xs), c.right_is, c.left_is, c.low-is)
+      rw (l.areas, append_assoc (piece_of g.left) (piece_of g.right) (drop g.high xs), c.right_is, c.left_is, c.low_is)
       (sym (cut_is low high n xs o))
 
   -- with an area in its place
   pub gap_insert : (a : Area) (p : Parts) → a.start ≡ low → Lays p (piece_of g.left ++ (a ∷ piece_of g.right))
       → spliced xs g.low g.high (parts_of p) ≡ insert a (cut low high xs)
   gap_insert a p e l =
-      rw (l.areas, append_assoc (piece_of g.left) (a ∷ piece_of g.right) (drop g.high xs), c.right_is, c.left_is, c.low-is)
+      rw (l.areas, append_assoc (piece_of g.left) (a ∷ piece_of g.right) (drop g.high xs), c.right_is, c.left_is, c.low_is)
       (sym (insert_is low high n a e xs o))

@@ -15,14 +15,14 @@ use positions::{any_overlap, first_ending_past};
 use slots::Parts;
 
 // A part of an area, or nothing.
-#[derive(Drop)]
+#[derive(Clone, Copy)]
 pub struct Piece {
     pub some: bool,
     pub area: Area,
 }
 
 // The slots from low up to high that a range of addresses cuts, and what stays of the first and of the last area in them.
-#[derive(Drop)]
+#[derive(Clone, Copy)]
 pub struct Gap {
     pub low: usize,
     pub high: usize,

@@ -111,8 +111,8 @@ unfolding split_rule
 split_parts a at z =
     rw (← split_accepted a at 0 (sym answered) refl)
     (record {
-      left_good = part_good largest_space a a.start at inside.good (omega arith) inside.above (omega (arith, inside)) inside.good.start-aligned inside.cut_aligned;
-      right_good = part_good largest_space a at a.end inside.good (omega (arith, inside)) inside.below (omega arith) inside.cut_aligned inside.good.end-aligned;
+      left_good = part_good largest_space a a.start at inside.good (omega arith) inside.above (omega (arith, inside)) inside.good.start_aligned inside.cut_aligned;
+      right_good = part_good largest_space a at a.end inside.good (omega (arith, inside)) inside.below (omega arith) inside.cut_aligned inside.good.end_aligned;
       pages = halves a at (omega (arith, inside)) (omega (arith, inside));
     })
   where

@@ -27,7 +27,7 @@ module _ (t : Tables) (good : good_tables t.areas t.count (length t.pages) ≡ t
   wide = t.count ∷ length t.pages ∷ words
 
   room : words_per_area * t.count ≤ length t.areas
-  room = count_fits t.areas t.count is_good.count-few
+  room = count_fits t.areas t.count is_good.count_few
 
   words_long : length words ≡ words_per_area * t.count
   words_long = length-take-le (words_per_area * t.count) t.areas room
@@ -39,7 +39,7 @@ module _ (t : Tables) (good : good_tables t.areas t.count (length t.pages) ≡ t
       let l : k < words_per_area * t.count = omega (arith, words_long) in
       rw (get_or-take (words_per_area * t.count) t.areas k 0 l)
       (words_fit (space_of (length t.pages)) (omega arith) 0 t.areas t.count
-      (sym (rows_decide t.areas t.count (length t.pages) is_good.pages-few is_good.count-few) ∙ good) k l)
+      (sym (rows_decide t.areas t.count (length t.pages) is_good.pages_few is_good.count_few) ∙ good) k l)
 
   abbrev front : List ℕ
   front = all_bytes word_size wide

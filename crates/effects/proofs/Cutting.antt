@@ -232,7 +232,7 @@ module _ {space : ℕ} (low high : ℕ) (p : low % page_size ≡ 0) (q : high % 
       → Ordered space before (right_piece high a ++ xs)
   right_ordered a xs g b c s o =
       elim (dec_lt high a.end) [
-        | yes h ↦ rw (right_yes high a h) (one_more (part_good space a high a.end g (omega arith) h (omega arith) q g.end-aligned) b o)
+        | yes h ↦ rw (right_yes high a h) (one_more (part_good space a high a.end g (omega arith) h (omega arith) q g.end_aligned) b o)
         | no h ↦ rw (right_no high a (omega arith)) (weaken o c)
       ]
 
@@ -241,7 +241,7 @@ module _ {space : ℕ} (low high : ℕ) (p : low % page_size ≡ 0) (q : high % 
   pieces_ordered a xs g b n l s o =
       elim (dec_lt a.start low) [
         | yes h ↦ rw (left_yes low a h)
-            (one_more (part_good space a a.start low g (omega arith) h (omega arith) g.start-aligned p) b
+            (one_more (part_good space a a.start low g (omega arith) h (omega arith) g.start_aligned p) b
             (right_ordered a xs g (omega arith) (omega arith) s o))
         | no h ↦ rw (left_no low a (omega arith)) (right_ordered a xs g (omega arith) (omega arith) s o)
       ]

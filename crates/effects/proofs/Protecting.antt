@@ -356,8 +356,8 @@ module _ {space : ℕ} (set clear at : ℕ) (p : at % page_size ≡ 0) where
           | no e ↦ rw (halved_no set clear at a (cuts_before set clear at a (omega arith))) (one_more g b o)
           | yes e ↦ by_test (changes set clear a)
               (λ c. rw (halved_yes set clear at a (cuts_yes set clear at a s e c))
-              (one_more (part_good space a a.start at g (omega arith) s (omega arith) g.start-aligned p) b
-              (one_more (part_good space a at a.end g (omega arith) e (omega arith) p g.end-aligned) (le_refl at) o)))
+              (one_more (part_good space a a.start at g (omega arith) s (omega arith) g.start_aligned p) b
+              (one_more (part_good space a at a.end g (omega arith) e (omega arith) p g.end_aligned) (le_refl at) o)))
               (λ c. rw (halved_no set clear at a (cuts_same set clear at a c)) (one_more g b o))
         ]
       ]
@@ -373,10 +373,10 @@ module _ {space : ℕ} (low high set clear : ℕ) (s : set ≤ max_flags) where
       record {
         nonempty = g.nonempty;
         inside = g.inside;
-        start-aligned = g.start-aligned;
-        end-aligned = g.end-aligned;
-        flags-legal = flags_few set clear a.flags s;
-        frames-legal = g.frames-legal;
+        start_aligned = g.start_aligned;
+        end_aligned = g.end_aligned;
+        flags_legal = flags_few set clear a.flags s;
+        frames_legal = g.frames_legal;
       }
 
   pub flagged_good : (a : Area) → Good space a → Good space (flagged low high set clear a)
@@ -426,7 +426,7 @@ split_storable set clear at (a ∷ xs) all =
 pub flagged_storable : (low high set clear : ℕ) (a : Area) → Storable a → Storable (flagged low high set clear a)
 unfolding flagged
 flagged_storable low high set clear a s =
-    by_test (leb low a.start && leb a.end high) (λ e. rw e (record { word-legal = s.word-legal })) (λ e. rw e s)
+    by_test (leb low a.start && leb a.end high) (λ e. rw e (record { word_legal = s.word_legal })) (λ e. rw e s)
 
 all_flagged_storable : (low high set clear : ℕ) (xs : List Area) → AllStorable xs → AllStorable (map (flagged low high set clear) xs)
 all_flagged_storable low high set clear [] all = all

@@ -46,8 +46,8 @@ module _ (areas pages : List ℕ) (count start size : ℕ) where
       let both : (eqb (start % page_size) 0 && eqb (size % page_size) 0) ≡ true = not-false (eqb (start % page_size) 0 && eqb (size % page_size) 0) even in
       record {
         tables = not-false (good_tables areas count (length pages)) good;
-        start-aligned = eqb-true (start % page_size) 0 (and_left (eqb (start % page_size) 0) (eqb (size % page_size) 0) both);
-        size-aligned = eqb-true (size % page_size) 0 (and_right (eqb (start % page_size) 0) (eqb (size % page_size) 0) both);
+        start_aligned = eqb-true (start % page_size) 0 (and_left (eqb (start % page_size) 0) (eqb (size % page_size) 0) both);
+        size_aligned = eqb-true (size % page_size) 0 (and_right (eqb (start % page_size) 0) (eqb (size % page_size) 0) both);
         inside = ltb-false (space_of (length pages)) (start + size) inside;
       }
 
@@ -85,10 +85,10 @@ module _ (areas pages : List ℕ) (count start size : ℕ) where
           good = record {
             nonempty = omega arith;
             inside = r.inside;
-            start-aligned = r.start-aligned;
-            end-aligned = omega (arith, r.start-aligned, r.size-aligned);
-            flags-legal = ltb-false max_flags flags (e 4);
-            frames-legal = not-false (backend_fits backend (start / page_size) ((start + size) / page_size)) (e 6);
+            start_aligned = r.start_aligned;
+            end_aligned = omega (arith, r.start_aligned, r.size_aligned);
+            flags_legal = ltb-false max_flags flags (e 4);
+            frames_legal = not-false (backend_fits backend (start / page_size) ((start + size) / page_size)) (e 6);
           };
           room = ltb-false (capacity_of (length areas)) (length (map_list areas count new_area)) (e 7);
         }

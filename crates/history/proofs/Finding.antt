@@ -24,8 +24,8 @@ by_page : {space : ℕ} (address : ℕ) (a : Area) → Good space a → contains
 by_page address a g =
     place (first_page a) (end_page a) (address / page_size)
     (λ h. contains_after address a (omega arith) ∙ sym (held_not_yet a (address / page_size) h))
-    (λ h l. contains_yes address a (omega (arith, g.start-aligned)) (omega arith) ∙ sym (held a (address / page_size) h l))
-    (λ l. contains_before address a (omega (arith, g.end-aligned)) ∙ sym (held_no_more a (address / page_size) l))
+    (λ h l. contains_yes address a (omega (arith, g.start_aligned)) (omega arith) ∙ sym (held a (address / page_size) h l))
+    (λ l. contains_before address a (omega (arith, g.end_aligned)) ∙ sym (held_no_more a (address / page_size) l))
 
 never : (backend : Backend) (flags : ℕ) → mapped backend flags ≡ unmapped → ⊥
 never backend flags e = let z : ◌≡◌ {A = ℕ} 0 1 = cc in omega arith
@@ -72,5 +72,5 @@ unfolding seen
 mapped_held [] page h = absurd (h refl)
 mapped_held (a ∷ xs) page h =
     by_test (holds a page)
-    (λ y. record { slot = 0; within = omega arith; holds-it = y })
-    (λ n. let r = mapped_held xs page (λ e. h (rw n e)) in record { slot = suc r.slot; within = omega arith; holds-it = r.holds-it })
+    (λ y. record { slot = 0; within = omega arith; holds_it = y })
+    (λ n. let r = mapped_held xs page (λ e. h (rw n e)) in record { slot = suc r.slot; within = omega arith; holds_it = r.holds_it })

@@ -112,14 +112,14 @@ module _ {words p : ℕ} {t : Tables} {h : List Call} (k : Kept words p t h) whe
       record {
         areas_long = length_store new t.areas t.count fits ∙ k.areas_long;
         pages_long = long;
-        good = store_good new t.areas t.count p facts.pages-few room fits o s;
+        good = store_good new t.areas t.count p facts.pages_few room fits o s;
         says = λ page. rw (rows_store new t.areas t.count) (told page);
         entries = λ page l. entries page l ∙ ap (entry_for page) (told page);
         few = omega (arith, k.few);
       }
     where
       fits : words_per_area * max t.count (length new) ≤ length t.areas
-      fits = omega (arith, count_fits t.areas t.count facts.count-few, count_fits t.areas (length new) room)
+      fits = omega (arith, count_fits t.areas t.count facts.count_few, count_fits t.areas (length new) room)
 
       told : (page : ℕ) → lookup new page ≡ fate_after c page (fate h page)
       told page = says page ∙ ap (fate_after c page) (k.says page)
@@ -136,7 +136,7 @@ module _ {words p : ℕ} {t : Tables} {h : List Call} (k : Kept words p t h) whe
   unmap_keeps start size z =
       let a = unmap_accepted t.areas t.pages t.count start size z in
       let end : ℕ = start + size in
-      let aligned : (start % page_size ≡ 0) × (end % page_size ≡ 0) = (a.range.start-aligned, omega (arith, a.range.start-aligned, a.range.size-aligned)) in
+      let aligned : (start % page_size ≡ 0) × (end % page_size ≡ 0) = (a.range.start_aligned, omega (arith, a.range.start_aligned, a.range.size_aligned)) in
       let cuts : (page : ℕ) → lookup (cut start end list) page ≡ cond (covers start size page) unmapped (lookup list page) =
       λ page. lookup_cut start end aligned.0 page list facts.ordered in
       by_reply _ _ _ (unmap_call start size) z
@@ -174,11 +174,11 @@ module _ {words p : ℕ} {t : Tables} {h : List Call} (k : Kept words p t h) whe
       let new : Area = mapped start size flags backend in
       let good : Good (space_of p) new = rw k.pages_long at a.good in
       let rest : List Area = cut start end list in
-      let rest-ordered : Ordered (space_of p) 0 rest = cut_ordered start end good.start-aligned good.end-aligned list facts.ordered in
+      let rest-ordered : Ordered (space_of p) 0 rest = cut_ordered start end good.start_aligned good.end_aligned list facts.ordered in
       let cuts : (page : ℕ) → lookup rest page ≡ cond (covers start size page) unmapped (lookup list page) =
-      λ page. lookup_cut start end good.start-aligned page list facts.ordered in
+      λ page. lookup_cut start end good.start_aligned page list facts.ordered in
       let maps : (page : ℕ) → lookup (insert new rest) page ≡ cond (covers start size page) (fate_in new) (lookup list page) =
-      λ page. lookup_insert new rest page rest-ordered good.start-aligned (cut_clear start end list) ∙ rw (cuts page) (cond_again (covers start size page) (fate_in new) unmapped (lookup list page)) in
+      λ page. lookup_insert new rest page rest-ordered good.start_aligned (cut_clear start end list) ∙ rw (cuts page) (cond_again (covers start size page) (fate_in new) unmapped (lookup list page)) in
       by_reply _ _ _ (map_call start size flags backend replace) z
       (changed (map_call start size flags backend replace) (insert new rest) (map_pages new (cut_pages start end list t.pages))
       (insert_ordered new rest rest-ordered good (omega arith) (cut_clear start end list))
@@ -189,7 +189,7 @@ module _ {words p : ℕ} {t : Tables} {h : List Call} (k : Kept words p t h) whe
       maps
       (λ page l. map_entry new (cut_pages start end list t.pages) page (lookup rest page) (omega (arith, k.pages_long, cut_pages_long start end list t.pages))
       (rw (cuts page) (cut_entry list t.pages page (omega (arith, k.pages_long)) (entry_now page l) start end))
-      ∙ ap (entry_for page) (sym (lookup_insert new rest page rest-ordered good.start-aligned (cut_clear start end list)))))
+      ∙ ap (entry_for page) (sym (lookup_insert new rest page rest-ordered good.start_aligned (cut_clear start end list)))))
 
   protect_keeps : (start size set clear : ℕ) → answer (protect_tests t.areas t.pages t.count start size set clear) ≡ 0
       → Kept words p (protect_rule t.areas t.pages t.count start size set clear).value (protect_call start size set clear ∷ h)
@@ -197,12 +197,12 @@ module _ {words p : ℕ} {t : Tables} {h : List Call} (k : Kept words p t h) whe
   protect_keeps start size set clear z =
       let a = protect_accepted t.areas t.pages t.count start size set clear z in
       let end : ℕ = start + size in
-      let aligned : (start % page_size ≡ 0) × (end % page_size ≡ 0) = (a.range.start-aligned, omega (arith, a.range.start-aligned, a.range.size-aligned)) in
+      let aligned : (start % page_size ≡ 0) × (end % page_size ≡ 0) = (a.range.start_aligned, omega (arith, a.range.start_aligned, a.range.size_aligned)) in
       let flags : (page : ℕ) → lookup (protect start end set clear list) page ≡ cond (covers start size page) (reflagged set clear (lookup list page)) (lookup list page) =
       λ page. lookup_protect start end set clear aligned.0 page list facts.ordered in
       by_reply _ _ _ (protect_call start size set clear) z
       (changed (protect_call start size set clear) (protect start end set clear list) (protect_pages start end set clear list t.pages)
-      (protect_ordered start end set clear list facts.ordered aligned.0 aligned.1 a.set-legal)
+      (protect_ordered start end set clear list facts.ordered aligned.0 aligned.1 a.set_legal)
       (protect_storable start end set clear list facts.ordered storable)
       a.room
       (omega (arith, length_protected start end set clear list facts.ordered, length_rows t.areas t.count))

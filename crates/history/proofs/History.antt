@@ -40,7 +40,7 @@ entry_in a pages page s e =
 
 module _ {words p : ℕ} {t : Tables} {h : List Call} (k : Kept words p t h) where
   good_now_lem : good_tables t.areas t.count (length t.pages) ≡ true
-  good_now_lem = rw k.pages-long k.good
+  good_now_lem = rw k.pages_long k.good
 
   finds : (address : ℕ) (backend : Backend) (flags : ℕ) → fate h (address / page_size) ≡ mapped backend flags → Finds t address backend flags
   finds address backend flags e =
@@ -51,8 +51,8 @@ module _ {words p : ℕ} {t : Tables} {h : List Call} (k : Kept words p t h) whe
       record {
         accepted = rw (← said);
         here = rw (← said) ((first (contains address) (areas_of t)).passes f.within);
-        backend-is = rw (← said) f.backend-is;
-        flags-are = rw (← said) f.flags-are;
+        backend_is = rw (← said) f.backend_is;
+        flags_are = rw (← said) f.flags_are;
       }
 
   finds_none : (address : ℕ) → fate h (address / page_size) ≡ unmapped → find_in t address ≡ reply 7 nothing
@@ -67,26 +67,26 @@ module _ {words p : ℕ} {t : Tables} {h : List Call} (k : Kept words p t h) whe
       let a : Area = (find_in t address).value in
       let i = find_inside t.areas t.pages t.count address in
       let l = holding a page e in
-      entry_in a t.pages page l.from l.upto ∙ k.entries page (omega (arith, i.ends, l.upto, k.pages-long))
+      entry_in a t.pages page l.from l.upto ∙ k.entries page (omega (arith, i.ends, l.upto, k.pages_long))
 
   follows_kept : Follows words p t h
   follows_kept =
       record {
-        areas-long = k.areas-long;
-        pages-long = k.pages-long;
+        areas_long = k.areas_long;
+        pages_long = k.pages_long;
         good = k.good;
         entries = k.entries;
         finds = finds;
         finds_none = finds_none;
-        shows-all = entries_length t.areas t.pages t.count;
+        shows_all = entries_length t.areas t.pages t.count;
         shows = shows;
         apart = λ i j l m. apart (facts k).ordered i j l (omega (arith, length_rows t.areas t.count));
         cover = λ page. (
-          λ s e. held_mapped (areas_of t) page s.slot s.within s.holds-it (k.says page ∙ e),
+          λ s e. held_mapped (areas_of t) page s.slot s.within s.holds_it (k.says page ∙ e),
           λ m. mapped_held (areas_of t) page (λ e. m (sym (k.says page) ∙ e)),
         );
         few = k.few;
-        fits = rw k.areas-long at (facts k).count-few;
+        fits = rw k.areas_long at (facts k).count_few;
       }
 
 pub follows : (words p : ℕ) → p ≤ max_pages → (cs : List Call) → legal_calls cs ≡ true

@@ -145,7 +145,7 @@ module _ (low high : ℕ) (p : low % page_size ≡ 0) (page : ℕ) where
     outside_inside l h =
         by_test (shares low high a)
         (λ e. rw (e, seen_append (left_piece low a) (right_piece high a) page other, right_gone a page other high h) (left_gone a page other low l))
-        (λ e. rw (e, not_held low high a page p g.start-aligned l h e))
+        (λ e. rw (e, not_held low high a page p g.start_aligned l h e))
 
     outside_before : page < low / page_size → seen (outside low high a) page other ≡ seen (a ∷ []) page other
     unfolding outside
@@ -211,7 +211,7 @@ lookup_insert a (b ∷ xs) page (one_more g d o) s c =
     apart e =
         refuted (holds a page)
         (λ k. let h = holding a page k in
-        true≢false (sym e ∙ not_held a.start a.end b page s g.start-aligned h.from h.upto (no_shares a.start a.end (b ∷ xs) c 0 (omega arith))))
+        true≢false (sym e ∙ not_held a.start a.end b page s g.start_aligned h.from h.upto (no_shares a.start a.end (b ∷ xs) c 0 (omega arith))))
 
 -- ---- a protect: the flags in its range change, and other pages are as they were
 
@@ -250,7 +250,7 @@ module _ (low high set clear : ℕ) (p : low % page_size ≡ 0) (page : ℕ) whe
         (λ e. by_pieces a (reflagged set clear other) e c
         ∙ left_gone a page (cond (holds (middle a) page) (fate_in (middle a)) (seen (right_piece high a) page (reflagged set clear other))) low l
         ∙ rw (right_gone a page (reflagged set clear other) high h, middle_holds a l h) (reflagged_alone set clear a page other))
-        (λ e. rw (kept_apart low high set clear a e, not_held low high a page p g.start-aligned l h e)))
+        (λ e. rw (kept_apart low high set clear a e, not_held low high a page p g.start_aligned l h e)))
         (λ c. rw (kept_same low high set clear a c) (rw (same_flags set clear a c) at (reflagged_alone set clear a page other)))
 
     protected_before : page < low / page_size → seen (protected low high set clear a) page other ≡ seen (a ∷ []) page other

@@ -80,9 +80,9 @@ module _ (p : ℕ → Bool) where
 -- ---- some number, and the lowest
 
 -- the two ways that a test can go
-pub by-test {ℓ} : {X : Type ℓ} (b : Bool) → (b ≡ true → X) → (b ≡ false → X) → X
-by-test true t f = t refl
-by-test false t f = f refl
+pub by_test {ℓ} : {X : Type ℓ} (b : Bool) → (b ≡ true → X) → (b ≡ false → X) → X
+by_test true t f = t refl
+by_test false t f = f refl
 
 -- a number among n from first on that passes
 pub record Passing (p : ℕ → Bool) (first n : ℕ) : Type 0 where
@@ -109,19 +109,19 @@ module _ (p : ℕ → Bool) where
   pub some_yes : (n first : ℕ) → Passing p first n → some_of p first n ≡ true
   unfolding some_of
   some_yes zero first w = absurd (omega arith)
-  some_yes (suc n) first w = by-test (p first) (λ e. rw e) (λ e. rw e (some_yes n (suc first) (not_here n first e w)))
+  some_yes (suc n) first w = by_test (p first) (λ e. rw e) (λ e. rw e (some_yes n (suc first) (not_here n first e w)))
 
   pub some_at : (n first : ℕ) → some_of p first n ≡ true → Passing p first n
   unfolding some_of
   some_at zero first t = absurd (true≢false (sym t))
-  some_at (suc n) first t = by-test (p first) (here n first) (λ e. later n first (some_at n (suc first) (rw e at t)))
+  some_at (suc n) first t = by_test (p first) (here n first) (λ e. later n first (some_at n (suc first) (rw e at t)))
 
   -- every number below the lowest fails
   pub lowest_fails : (n first k : ℕ) → first ≤ k → k < lowest_of p first n → p k ≡ false
   unfolding lowest_of
   lowest_fails zero first k a b = absurd (omega arith)
   lowest_fails (suc n) first k a b =
-      by-test (p first)
+      by_test (p first)
       (λ e. let b' : k < first = rw (e, lowest_of) at b in absurd (omega arith))
       (λ e. elim (ℕ_discrete k first) [ yes q ↦ ap p q ∙ e | no q ↦ lowest_fails n (suc first) k (omega arith) (rw (e, lowest_of) at b) ])
 
@@ -129,4 +129,4 @@ module _ (p : ℕ → Bool) where
   pub lowest_passes : (n first : ℕ) → Passing p first n → p (lowest_of p first n) ≡ true
   unfolding lowest_of
   lowest_passes zero first w = absurd (omega arith)
-  lowest_passes (suc n) first w = by-test (p first) (λ e. rw (e, lowest_of) e) (λ e. rw (e, lowest_of) (lowest_passes n (suc first) (not_here n first e w)))
+  lowest_passes (suc n) first w = by_test (p first) (λ e. rw (e, lowest_of) e) (λ e. rw (e, lowest_of) (lowest_passes n (suc first) (not_here n first e w)))

@@ -16,7 +16,7 @@ pub const MAX_PAGES: usize = 65536;
 pub const FRAMES: u32 = 0x100_0000;
 
 // How an area's pages get their frames.
-#[derive(Drop)]
+#[derive(Clone, Copy)]
 pub enum Backend {
     // Frames arrive later; until then the frame bits are 0.
     Lazy,

@@ -38,7 +38,7 @@ module _ (ws : List ℕ) (count : ℕ) (good : good_tables ws count max_pages �
   module _ (list : List Area) (fits : length list ≤ capacity_of (length ws)) where
     room : words_per_area * max count (length list) ≤ length ws
     room =
-        let old : words_per_area * count ≤ length ws = count_fits ws count tables.count-few in
+        let old : words_per_area * count ≤ length ws = count_fits ws count tables.count_few in
         let new : words_per_area * length list ≤ length ws = count_fits ws (length list) fits in
         omega arith
 
@@ -56,10 +56,10 @@ in_larger (a ∷ xs) h (one_more g b o) =
     (record {
       nonempty = g.nonempty;
       inside = omega (arith, g.inside);
-      start-aligned = g.start-aligned;
-      end-aligned = g.end-aligned;
-      flags-legal = g.flags-legal;
-      frames-legal = g.frames-legal;
+      start_aligned = g.start_aligned;
+      end_aligned = g.end_aligned;
+      flags_legal = g.flags_legal;
+      frames_legal = g.frames_legal;
     })
     b (in_larger xs h o)
 
@@ -68,8 +68,8 @@ good_with_most ws count p good =
     let t = tables_are ws count p good in
     let n : length (rows ws count) ≡ count = length_rows ws count in
     rw (store_same (sorted t), n) at
-    (store_good (rows ws count) ws count max_pages (le_refl max_pages) (rw n t.count-few) (omega (arith, count_fits ws count t.count-few))
-    (in_larger (rows ws count) (omega (arith, t.pages-few)) t.ordered)
+    (store_good (rows ws count) ws count max_pages (le_refl max_pages) (rw n t.count_few) (omega (arith, count_fits ws count t.count_few))
+    (in_larger (rows ws count) (omega (arith, t.pages_few)) t.ordered)
     (λ i h. rows_storable (sorted t) i (rw n at h)))
 
 -- ---- the split at one end of the range
@@ -162,14 +162,14 @@ module _ (low high set clear : ℕ) (range : ProtectRange low high set clear) (w
 
   module _ {r₁ : ℕ} {ws₁ : List ℕ} (n₁ : r₁ ≡ length first) (w₁ : ws₁ ≡ store first ws count) where
     pub first_stored : Stored first ws₁ r₁ ws
-    first_stored = split_stored set clear high range.high-aligned ws count good first_fits n₁ w₁
+    first_stored = split_stored set clear high range.high_aligned ws count good first_fits n₁ w₁
 
     pub second_fits : length (split_at set clear low (rows ws₁ r₁)) ≤ capacity_of (length ws₁)
     second_fits = rw (first_stored.is, first_stored.long) (omega (arith, second_long))
 
     module _ {r₂ : ℕ} {ws₂ : List ℕ} (n₂ : r₂ ≡ length (split_at set clear low (rows ws₁ r₁))) (w₂ : ws₂ ≡ store (split_at set clear low (rows ws₁ r₁)) ws₁ r₁) where
       pub second_stored : Stored (split_at set clear low (rows ws₁ r₁)) ws₂ r₂ ws₁
-      second_stored = split_stored set clear low range.low-aligned ws₁ r₁ first_stored.good second_fits n₂ w₂
+      second_stored = split_stored set clear low range.low_aligned ws₁ r₁ first_stored.good second_fits n₂ w₂
 
       is_second : split_at set clear low (rows ws₁ r₁) ≡ second
       is_second = ap (split_at set clear low) first_stored.is

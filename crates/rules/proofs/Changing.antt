@@ -111,7 +111,7 @@ module _ (areas pages : List ℕ) (count start size n : ℕ) (e : n ≡ range_an
     pub unmap_nothing : size ≡ 0 → reply n (tables areas pages count) ≡ unmap_rule areas pages count start size
     unfolding unmap_rule
     unmap_nothing s =
-        rw z (ap (reply 0) (sym value) ∙ reply_zero _ _ _ (after ∙ room_yes areas (unmap_list areas count start size) (rw (list, length_rows areas count) good.count-few)))
+        rw z (ap (reply 0) (sym value) ∙ reply_zero _ _ _ (after ∙ room_yes areas (unmap_list areas count start size) (rw (list, length_rows areas count) good.count_few)))
       where
         list : unmap_list areas count start size ≡ rows areas count
         list = cut_empty start (start + size) (rows areas count) (omega arith)
@@ -361,7 +361,7 @@ module _ (areas pages : List ℕ) (count start size set clear : ℕ) where
       pub protect_nothing : size ≡ 0 → reply n (tables areas pages count) ≡ protect_rule areas pages count start size set clear
       unfolding protect_rule
       protect_nothing s =
-          rw z (ap (reply 0) (sym value) ∙ reply_zero _ _ _ (after_flags ∙ room_yes areas (protect_list areas count start size set clear) (rw (list, length_rows areas count) good_now_lem.count-few)))
+          rw z (ap (reply 0) (sym value) ∙ reply_zero _ _ _ (after_flags ∙ room_yes areas (protect_list areas count start size set clear) (rw (list, length_rows areas count) good_now_lem.count_few)))
         where
           good_now_lem : GoodTables areas count (length pages)
           good_now_lem = tables_are areas count (length pages) (protect_passed (sym e ∙ z)).range.tables

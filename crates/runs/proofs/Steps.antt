@@ -12,7 +12,7 @@ use Rattle.area.specs.Answer.{number, Reply, reply}
 use Rattle.area.specs.declared.Answer.{Answer}
 use Rattle.rules.specs.Change.{Tables}
 use Rattle.questions.specs.Question.{overlaps_rule}
-use Rattle.lines.specs.Line.{no_line, longest_line, line_bytes}
+use Rattle.lines.specs.Line.{no_line_lem, longest_line, line_bytes}
 use Rattle.lines.proofs.Lines.{line_short}
 use Rattle.runs.specs.Step.{ran, step_outcome, answer_line, changed_ran, run_rule, step_rule, change_rule, asked_line}
 use Rattle.runs.specs.declared.Stepped.{Stepped}
@@ -28,7 +28,7 @@ unfolding answer_line
 accepted_line zero line e = refl
 accepted_line (suc n) line e = absurd (omega arith)
 
-no_line_lem : (n : ℕ) (line : List ℕ) → (n ≡ 0 → ⊥) → no_line n ≡ answer_line n line
+no_line_lem : (n : ℕ) (line : List ℕ) → (n ≡ 0 → ⊥) → no_line_lem n ≡ answer_line n line
 unfolding answer_line
 no_line_lem zero line z = absurd (z refl)
 no_line_lem (suc n) line z = refl
@@ -40,18 +40,18 @@ refused_line answer said z = no_line_lem (number answer) said z
 -- ---- the change
 
 -- find, overlaps, search and a bad request, by their places in `Request`
-abbrev no_change : List ℕ
-no_change = 3 ∷ 4 ∷ 5 ∷ 7 ∷ []
+abbrev no_change_lem : List ℕ
+no_change_lem = 3 ∷ 4 ∷ 5 ∷ 7 ∷ []
 
-pub no_change_lem : (t : Tables) (r : Request) → OneOf no_change (tag_of the_type r) → reply 0 t ≡ change_rule t r
+pub no_change_lem : (t : Tables) (r : Request) → OneOf no_change_lem (tag_of the_type r) → reply 0 t ≡ change_rule t r
 unfolding change_rule
-no_change_lem t (request.Map start size flags backend replace) k = absurd (miss no_change 0 tt k)
-no_change_lem t (request.Unmap start size) k = absurd (miss no_change 1 tt k)
-no_change_lem t (request.Protect start size set clear) k = absurd (miss no_change 2 tt k)
+no_change_lem t (request.Map start size flags backend replace) k = absurd (miss no_change_lem 0 tt k)
+no_change_lem t (request.Unmap start size) k = absurd (miss no_change_lem 1 tt k)
+no_change_lem t (request.Protect start size set clear) k = absurd (miss no_change_lem 2 tt k)
 no_change_lem t (request.Find address) k = refl
 no_change_lem t (request.Overlaps start size) k = refl
 no_change_lem t (request.Search hint size limit align) k = refl
-no_change_lem t request.Clear k = absurd (miss no_change 6 tt k)
+no_change_lem t request.Clear k = absurd (miss no_change_lem 6 tt k)
 no_change_lem t request.Bad k = refl
 
 -- ---- the line where the change is accepted

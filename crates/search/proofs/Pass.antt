@@ -65,7 +65,7 @@ module _ {xs : List Area} {count : ℕ} {q : Ask} {last : ℕ} where
     pub pass_none : last < at → free_gives 7 0 ≡ free_rule xs q
     pass_none over =
         sym (none_is xs q
-        (λ b f. elim (dec_lt b at) [ yes h ↦ p.below b h f | no h ↦ omega (arith, p.setting.room, f.below-high, f.inside) ]))
+        (λ b f. elim (dec_lt b at) [ yes h ↦ p.below b h f | no h ↦ omega (arith, p.setting.room, f.below_high, f.inside) ]))
 
     -- the address has room, and every area from the slot on starts past it
     here : at ≤ last → ((i : ℕ) → slot ≤ i → i < count → at + q.size ≤ (get_or xs i nothing).start) → free_gives 0 at ≡ free_rule xs q
@@ -77,9 +77,9 @@ module _ {xs : List Area} {count : ℕ} {q : Ask} {last : ℕ} where
               multiple = p.multiple;
               from_hint = p.from_hint;
               from_low = p.from_low;
-              below-high = omega (arith, p.setting.room);
+              below_high = omega (arith, p.setting.room);
               inside = omega (arith, p.setting.room);
-              meets-none = λ i address l c. elim (dec_lt i slot)
+              meets_none = λ i address l c. elim (dec_lt i slot)
                   [ yes m ↦ omega (arith, p.ended i m) | no m ↦ omega (arith, later i (omega arith) (omega (arith, p.setting.counted))) ];
             }
 
@@ -118,7 +118,7 @@ module _ {xs : List Area} {count : ℕ} {q : Ask} {last : ℕ} where
       meets_it b h l m f =
           let nonempty = (good_at p.setting.ordered slot listed).nonempty in
           let some = p.setting.legal.some in
-          f.meets-none slot (max b a.start) listed
+          f.meets_none slot (max b a.start) listed
           (record { from = omega arith; upto = omega arith; starts = omega (arith, starts); ends = omega (arith, starts, ends) })
 
       pub pass_skips : (next : ℕ) → a.end ≤ at → next ≡ at → Pass xs count q last next (slot + 1)

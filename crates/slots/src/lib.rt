@@ -13,7 +13,7 @@ use area::Area;
 use area_list::{WORDS, word_of};
 
 // At most three areas that take the place of a run of slots.
-#[derive(Drop)]
+#[derive(Clone, Copy)]
 pub struct Parts {
     pub number: usize,
     pub first: Area,

@@ -18,11 +18,11 @@ word64-requires-2 c κs = search rules
 
 returns-2 : tie.Need-returns-2
 unfolding count_in
-returns-2 c = sym (not_sized _ (λ s. omega (arith, s.few-areas, c.before.before.word64.ensures)))
+returns-2 c = sym (not_sized _ (λ s. omega (arith, s.few_areas, c.before.before.word64.ensures)))
 
 returns-3 : tie.Need-returns-3
 unfolding pages_in
-returns-3 c = sym (not_sized _ (λ s. omega (arith, s.few-pages, c.before.before.word642.ensures)))
+returns-3 c = sym (not_sized _ (λ s. omega (arith, s.few_pages, c.before.before.word642.ensures)))
 
 mul-result : tie.Need-overflow-mul-result
 mul-result c = search rules

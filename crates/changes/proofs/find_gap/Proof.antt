@@ -24,26 +24,26 @@ right-piece-requires c κs = search rules
 add-past : tie.Need-overflow-add-past
 add-past c =
     let at = c.before.before.before.before.before.before.args in
-    let one = one_taken c.before.right-piece.result c.if1.true in
+    let one = one_taken c.before.right_piece.result c.if1.true in
     omega (
       arith,
       length_rows at.areas.now at.count,
       one,
-      past_inside (rows at.areas.now at.count) at.low at.high _ _ c.before.before.before.before.before.before.requires.1 c.before.before.before.before.first-ending-past.ensures c.before.before.before.first-ending-past2.ensures c.before.before.left-piece.result c.before.right-piece.result
-          c.before.before.left-piece.ensures c.before.right-piece.ensures,
+      past_inside (rows at.areas.now at.count) at.low at.high _ _ c.before.before.before.before.before.before.requires.1 c.before.before.before.before.first-ending-past.ensures c.before.before.before.first-ending-past2.ensures c.before.before.left_piece.result c.before.right_piece.result
+          c.before.before.left_piece.ensures c.before.right_piece.ensures,
     )
 
 returns : tie.Need-returns
 returns c =
     let at = c.before.before.before.before.before.before.args in
     gap_is (rows at.areas.now at.count) at.low at.high _ _ c.before.before.before.before.before.before.requires.1 c.before.before.before.before.first-ending-past.ensures c.before.before.before.first-ending-past2.ensures _ _
-    c.before.before.left-piece.ensures c.before.right-piece.ensures _ (sym (rw (one_taken c.before.right-piece.result c.if1.true)))
+    c.before.before.left_piece.ensures c.before.right_piece.ensures _ (sym (rw (one_taken c.before.right_piece.result c.if1.true)))
 
 returns-2 : tie.Need-returns-2
 returns-2 c =
     let at = c.before.before.before.before.before.before.args in
     gap_is (rows at.areas.now at.count) at.low at.high _ _ c.before.before.before.before.before.before.requires.1 c.before.before.before.before.first-ending-past.ensures c.before.before.before.first-ending-past2.ensures _ _
-    c.before.before.left-piece.ensures c.before.right-piece.ensures _ (sym (rw (none_taken c.before.right-piece.result c.if1.false, add-zero)))
+    c.before.before.left_piece.ensures c.before.right_piece.ensures _ (sym (rw (none_taken c.before.right_piece.result c.if1.false, add-zero)))
 
 pub find_gap_spec : {M : Type 1} → statement M
 find_gap_spec =

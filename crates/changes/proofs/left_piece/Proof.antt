@@ -12,7 +12,7 @@ no-piece-requires c κs = search rules
 returns : tie.Need-returns
 returns c =
     let at = c.before.before.before.args in
-    left_past (rows at.areas.now at.count) at.slot _ _ c.no-piece.ensures (rw length_rows c.before.if1.true)
+    left_past (rows at.areas.now at.count) at.slot _ _ c.no_piece.ensures (rw length_rows c.before.if1.true)
 
 area-at-requires : tie.Need-area-at-requires
 area-at-requires c κs = search rules

@@ -9,7 +9,7 @@ no-piece-requires : tie.Need-no-piece-requires
 no-piece-requires c κs = search rules
 
 returns : tie.Need-returns
-returns c = right_past _ _ _ _ c.no-piece.ensures (rw length_rows c.before.if1.true)
+returns c = right_past _ _ _ _ c.no_piece.ensures (rw length_rows c.before.if1.true)
 
 area-at-requires : tie.Need-area-at-requires
 area-at-requires c κs = search rules

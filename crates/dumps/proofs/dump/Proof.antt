@@ -57,7 +57,7 @@ put-dump-requires : tie.Need-put-dump-requires
 put-dump-requires c κs =
     let tested = c.before in
     let is-good = good tested.before.before.before in
-    (count_fits (lent tested.before.before.before).areas _ (tables_are _ _ _ is-good).count-few, tested.if4.false)
+    (count_fits (lent tested.before.before.before).areas _ (tables_are _ _ _ is-good).count_few, tested.if4.false)
 
 same_length : tie.Need-same-length
 same_length c = search rules

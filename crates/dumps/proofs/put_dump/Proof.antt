@@ -48,7 +48,7 @@ put-entries-requires c κs =
     let second = third.before.before.before.before.before in
     let first = second.before.before.before.before in
     let start = first.before.before.before.before.before in
-    omega (arith, words_past (given start) first.put-number.ensures second.put-number2.ensures start.requires.0 third.put-words.ensures, start.requires.1)
+    omega (arith, words_past (given start) first.put-number.ensures second.put-number2.ensures start.requires.0 third.put_words.ensures, start.requires.1)
 
 same_length : tie.Need-same-length
 same_length c = search rules
@@ -60,7 +60,7 @@ returns c =
     let second = third.before.before.before.before.before in
     let first = second.before.before.before.before in
     let start = first.before.before.before.before.before in
-    all_written (given start) first.put-number.ensures second.put-number2.ensures start.requires.0 third.put-words.ensures fourth.put_entries.ensures
+    all_written (given start) first.put-number.ensures second.put-number2.ensures start.requires.0 third.put_words.ensures fourth.put_entries.ensures
 
 pub put_dump_spec : {M : Type 1} → statement M
 put_dump_spec =

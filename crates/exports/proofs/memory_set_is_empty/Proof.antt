@@ -15,7 +15,7 @@ number-requires : tie.Need-number-requires
 number-requires c κs = search rules
 
 returns : tie.Need-returns
-returns c = rw (c.number.ensures, c.before.yes-number.ensures) (ap (in_numbers yes_number) c.before.before.is-empty.ensures)
+returns c = rw (c.number.ensures, c.before.yes_number.ensures) (ap (in_numbers yes_number) c.before.before.is-empty.ensures)
 
 pub memory_set_is_empty_spec : {M : Type 1} → statement M
 memory_set_is_empty_spec =

@@ -19,7 +19,7 @@ same-length-2 : tie.Need-same-length-2
 same-length-2 c = search rules
 
 returns : tie.Need-returns
-returns c = rw (c.number.ensures, ← c.before.before.before.before.before.before.before.before.before.backend-from.ensures) c.before.before.before.before.before.map.ensures
+returns c = rw (c.number.ensures, ← c.before.before.before.before.before.before.before.before.before.backend_from.ensures) c.before.before.before.before.before.map.ensures
 
 pub memory_set_map_spec : {M : Type 1} → statement M
 memory_set_map_spec =

@@ -9,7 +9,7 @@ new-flags-requires : tie.Need-new-flags-requires
 new-flags-requires c κs = search rules
 
 returns : tie.Need-returns
-returns c = pages_same _ _ _ _ _ _ (sym c.before.before.new-flags.ensures ∙ c.if1.true)
+returns c = pages_same _ _ _ _ _ _ (sym c.before.before.new_flags.ensures ∙ c.if1.true)
 
 later-requires : tie.Need-later-requires
 later-requires c κs = search rules
@@ -27,7 +27,7 @@ returns-2 : tie.Need-returns-2
 returns-2 c =
     let ends = c.before.before.before.before in
     let changed = ends.before.before in
-    pages_anew _ _ _ _ _ _ ends.before.later.ensures ends.earlier.ensures changed.before.before.new-flags.ensures changed.if1.false
+    pages_anew _ _ _ _ _ _ ends.before.later.ensures ends.earlier.ensures changed.before.before.new_flags.ensures changed.if1.false
     c.before.before.reflag.ensures
 
 pub reflag_area_spec : {M : Type 1} → statement M

@@ -15,16 +15,16 @@ accepted-requires c κs = search rules
 
 returns : tie.Need-returns
 returns c =
-    placed_refused _ _ _ _ _ _ _ _ _ c.before.before.search-answer.ensures
+    placed_refused _ _ _ _ _ _ _ _ _ c.before.before.search_answer.ensures
     (eqb-false _ _ (sym c.before.accepted.ensures ∙ not-true _ c.if1.true))
 
 -- past the tests the search is accepted
-passed : (c : tie.Else1) → number c.before.before.search-answer.result ≡ 0
+passed : (c : tie.Else1) → number c.before.before.search_answer.result ≡ 0
 passed c = eqb-true _ _ (sym c.before.accepted.ensures ∙ not-false _ c.if1.false)
 
 lowest-free-requires : tie.Need-lowest-free-requires
 lowest-free-requires c κs =
-    let asks = search_asks _ _ _ _ _ _ _ (sym c.before.before.search-answer.ensures ∙ passed c) in (asks.tables, asks.legal)
+    let asks = search_asks _ _ _ _ _ _ _ (sym c.before.before.search_answer.ensures ∙ passed c) in (asks.tables, asks.legal)
 
 enum-known-free : tie.Need-enum-known-free
 enum-known-free c = search rules
@@ -36,13 +36,13 @@ returns-2 : tie.Need-returns-2
 returns-2 c =
     let call = c.before.before.before in
     let tests = call.before in
-    placed_at _ _ _ _ _ _ _ _ _ tests.before.before.search-answer.ensures (passed tests) _ call.lowest-free.ensures _ c.before.free.given.1
+    placed_at _ _ _ _ _ _ _ _ _ tests.before.before.search_answer.ensures (passed tests) _ call.lowest_free.ensures _ c.before.free.given.1
 
 returns-3 : tie.Need-returns-3
 returns-3 c =
     let call = c.before.before in
     let tests = call.before in
-    placed_nowhere _ _ _ _ _ _ _ _ _ tests.before.before.search-answer.ensures (passed tests) _ call.lowest-free.ensures c.enum_told.given.1
+    placed_nowhere _ _ _ _ _ _ _ _ _ tests.before.before.search_answer.ensures (passed tests) _ call.lowest_free.ensures c.enum_told.given.1
 
 pub find_free_area_spec : {M : Type 1} → statement M
 find_free_area_spec =

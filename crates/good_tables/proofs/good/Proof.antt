@@ -19,7 +19,7 @@ first-bad-requires : tie.Need-first-bad-requires
 first-bad-requires c κs = search rules
 
 returns-3 : tie.Need-returns-3
-returns-3 c = first_decides _ _ _ _ (omega arith) (omega (arith, c.before.before.capacity.ensures)) c.first-bad.ensures
+returns-3 c = first_decides _ _ _ _ (omega arith) (omega (arith, c.before.before.capacity.ensures)) c.first_bad.ensures
 
 pub good_spec : {M : Type 1} → statement M
 good_spec = tie.close (tie.spec returns capacity-requires returns-2 first-bad-requires returns-3)

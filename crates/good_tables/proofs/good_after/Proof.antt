@@ -23,14 +23,14 @@ legal-word-requires : tie.Need-legal-word-requires
 legal-word-requires c κs = search rules
 
 returns-3 : tie.Need-returns-3
-returns-3 c = sym (illegal_row _ _ _ (sym c.before.legal-word.ensures ∙ not-true _ c.if3.true))
+returns-3 c = sym (illegal_row _ _ _ (sym c.before.legal_word.ensures ∙ not-true _ c.if3.true))
 
 -- past the third test the word is legal
 legal : (c : tie.Else3) → legal_word c.before.before.before.before.before.before.args.row.backend ≡ true
-legal c = sym c.before.legal-word.ensures ∙ not-false _ c.if3.false
+legal c = sym c.before.legal_word.ensures ∙ not-false _ c.if3.false
 
 area-requires : tie.Need-area-requires
-area-requires c κs = record { flags-fit = omega arith; word-legal = legal c }
+area-requires c κs = record { flags_fit = omega arith; word_legal = legal c }
 
 good-in-requires : tie.Need-good-in-requires
 good-in-requires c κs = search rules

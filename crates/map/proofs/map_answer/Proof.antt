@@ -20,12 +20,12 @@ accepted-requires c κs = search rules
 -- past the first test the range is accepted
 passed : (c : tie.Else1) → let at = c.before.before.before.before.before.args in
     range_answer at.areas.now at.pages.now at.count at.start at.size ≡ 0
-passed c = sym c.before.before.range-answer.ensures ∙ eqb-true _ _ (sym c.before.accepted.ensures ∙ not-false _ c.if1.false)
+passed c = sym c.before.before.range_answer.ensures ∙ eqb-true _ _ (sym c.before.accepted.ensures ∙ not-false _ c.if1.false)
 
 returns : tie.Need-returns
 returns c =
-    c.before.before.range-answer.ensures
-    ∙ sym (map_range _ _ _ _ _ _ _ _ (rw (← c.before.before.range-answer.ensures) (eqb-false _ _ (sym c.before.accepted.ensures ∙ not-true _ c.if1.true))))
+    c.before.before.range_answer.ensures
+    ∙ sym (map_range _ _ _ _ _ _ _ _ (rw (← c.before.before.range_answer.ensures) (eqb-false _ _ (sym c.before.accepted.ensures ∙ not-true _ c.if1.true))))
 
 returns-2 : tie.Need-returns-2
 returns-2 c = sym (map_empty _ _ _ _ _ _ _ _ (passed c.before) c.if2.true)

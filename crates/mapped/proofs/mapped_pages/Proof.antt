@@ -414,7 +414,7 @@ module _ {M : Type 1} {𝓤 : Ura M} (𝓛 : Logic 𝓤) (at_mem : Memory → SP
 
   module _ (𝓣 : Tables 𝓤 H) (known : Known 𝓛 at_mem run 𝓣) (isa : Is (ShrSlice (named 0) κ u64) a (av ∷ [])) (isp : Is (ShrSlice (named 1) κ' u32) p (pv ∷ [])) where
     few-pages : length p.now < 2 ^ 64
-    few-pages = ((shr_slice_Lawful 𝓛 (named 1) κ' u32).typed p (pv ∷ []) isp).0.1.1.0.fits
+    few_pages = ((shr_slice_Lawful 𝓛 (named 1) κ' u32).typed p (pv ∷ []) isp).0.1.1.0.fits
 
     walk : ent 𝓤 (on_entry 𝓛 f.signature (κ, (κ', tt)) (q, (q', tt)) (a, (p, (c, tt))) at) (WpFn 𝓤 H 𝓣.C 𝓣.Λ code.function (av ∷ pv ∷ vint w64 c ∷ []) Post)
     walk =

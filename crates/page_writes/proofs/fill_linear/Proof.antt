@@ -44,7 +44,7 @@ loop-again : tie.Need-loop-preserved invariant-loop decreases-loop
 unfolding writes entry_of
 loop-again c =
     goes_on c.before.before.before.loop.invariant _ c.before.before.loop-test.true (omega arith)
-    (c.packed.ensures ∙ rw c.before.linear-frame.ensures)
+    (c.packed.ensures ∙ rw c.before.linear_frame_lem.ensures)
 
 same_length : tie.Need-same-length invariant-loop decreases-loop
 same_length c = c.before.loop.invariant.long

@@ -46,7 +46,7 @@ add-end : tie.Need-overflow-add-end
 add-end c = omega (arith, range_small (asked c.before).range)
 
 extra-areas-requires : tie.Need-extra-areas-requires
-extra-areas-requires c κs = (good_with_most _ _ _ (asked c.before.before).range.tables, (omega arith, (asked c.before.before).clear-legal))
+extra-areas-requires c κs = (good_with_most _ _ _ (asked c.before.before).range.tables, (omega arith, (asked c.before.before).clear_legal))
 
 add-more : tie.Need-overflow-add-more
 add-more c = omega (arith, range_small (asked c.before.before.before).range, c.extra-areas.ensures.1)
@@ -66,14 +66,14 @@ returns-3 c =
     (omega (arith, c.before.capacity.ensures, c.before.before.extra-areas.ensures.0))
 
 reflag-areas-requires : tie.Need-reflag-areas-requires
-reflag-areas-requires c κs = ((asked c.before.before.before.before.before.before.before).range.tables, (asked c.before.before.before.before.before.before.before).clear-legal)
+reflag-areas-requires c κs = ((asked c.before.before.before.before.before.before.before).range.tables, (asked c.before.before.before.before.before.before.before).clear_legal)
 
 protect-list-requires : tie.Need-protect-list-requires
 protect-list-requires c κs =
     let p = asked c.before.before.before.before.before.before.before.before.before.before.before in (
       good_with_most _ _ _ p.range.tables,
       (
-        record { nonempty = omega arith; low-aligned = p.range.start-aligned; high-aligned = omega (arith, p.range); set-legal = p.set-legal; clear-legal = p.clear-legal },
+        record { nonempty = omega arith; low_aligned = p.range.start_aligned; high_aligned = omega (arith, p.range); set_legal = p.set_legal; clear_legal = p.clear_legal },
         omega (arith, c.before.before.before.before.before.before.before.capacity.ensures, c.before.before.before.before.before.before.before.before.extra-areas.ensures.0),
       ),
     )
@@ -88,7 +88,7 @@ returns-4 : tie.Need-returns-4
 returns-4 c =
     protect_done _ _ _ _ _ _ _ _ c.before.before.before.before.before.before.before.before.before.before.before.before.before.before.before.before.protect-answer.ensures (passed c.before.before.before.before.before.before.before.before.before.before.before.before.before.before)
     _ _ _ (omega (arith, c.before.before.before.before.before.before.before.before.before.before.capacity.ensures, c.before.before.before.before.before.before.before.before.before.before.before.extra-areas.ensures.0, c.before.before.before.before.before.before.before.before.before.if3.false))
-    c.before.before.protect-list.ensures.1 c.before.before.before.before.before.before.reflag-areas.ensures c.before.before.protect-list.ensures.0
+    c.before.before.protect_list.ensures.1 c.before.before.before.before.before.before.reflag-areas.ensures c.before.before.protect_list.ensures.0
 
 pub protect_spec : {M : Type 1} → statement M
 protect_spec =

@@ -39,13 +39,13 @@ returns-3 c =
     let found = c.before.before.before.before.before.before in
     sym (length_rows _ _)
     ∙ not_changed _ _ _ _ _ found.before.first-ending-past.ensures (tables_are _ _ _ found.before.before.before.requires.0).ordered
-    _ c.before.before.before.before.before.area-at.ensures (rw length_rows (slot-in found)) (sym c.before.before.new-flags.ensures ∙ c.if3.true)
+    _ c.before.before.before.before.before.area-at.ensures (rw length_rows (slot-in found)) (sym c.before.before.new_flags.ensures ∙ c.if3.true)
 
 returns-4 : tie.Need-returns-4
 returns-4 c =
     let found = c.before.before.before.before.before.before in
     split_here _ _ _ _ _ found.before.first-ending-past.ensures (tables_are _ _ _ found.before.before.before.requires.0).ordered
-    _ c.before.before.before.before.before.area-at.ensures (rw length_rows (slot-in found)) c.before.before.before.if2.false (λ e. c.if3.false (c.before.before.new-flags.ensures ∙ e))
+    _ c.before.before.before.before.before.area-at.ensures (rw length_rows (slot-in found)) c.before.before.before.if2.false (λ e. c.if3.false (c.before.before.new_flags.ensures ∙ e))
 
 pub cut_slot_spec : {M : Type 1} → statement M
 cut_slot_spec =

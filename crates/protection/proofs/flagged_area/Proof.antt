@@ -15,7 +15,7 @@ new-flags-requires : tie.Need-new-flags-requires
 new-flags-requires c κs = search rules
 
 returns-3 : tie.Need-returns-3
-returns-3 c = rw c.new-flags.ensures (sym (flagged_in _ _ _ _ _ c.before.before.before.if1.false c.before.if2.false))
+returns-3 c = rw c.new_flags.ensures (sym (flagged_in _ _ _ _ _ c.before.before.before.if1.false c.before.if2.false))
 
 pub flagged_area_spec : {M : Type 1} → statement M
 flagged_area_spec = tie.close (tie.spec returns returns-2 new-flags-requires returns-3)

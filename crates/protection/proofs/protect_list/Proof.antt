@@ -7,14 +7,14 @@ use Rattle.protection.proofs.protect_list.Tie as tie
 split-at-requires : tie.Need-split-at-requires
 split-at-requires c κs =
     let pre = c.before.before.requires in
-    (pre.0, (pre.1.0.clear-legal, first_fits _ _ _ _ pre.1.0 _ _ pre.0 pre.1.1))
+    (pre.0, (pre.1.0.clear_legal, first_fits _ _ _ _ pre.1.0 _ _ pre.0 pre.1.1))
 
 split-at-requires-2 : tie.Need-split-at-requires-2
 split-at-requires-2 c κs =
     let pre = c.before.before.before.before.before.before.requires in
     let high-split = c.before.before.before.split_at.ensures in (
       (first_stored _ _ _ _ pre.1.0 _ _ pre.0 pre.1.1 high-split.0 high-split.1).good,
-      (pre.1.0.clear-legal, second_fits _ _ _ _ pre.1.0 _ _ pre.0 pre.1.1 high-split.0 high-split.1),
+      (pre.1.0.clear_legal, second_fits _ _ _ _ pre.1.0 _ _ pre.0 pre.1.1 high-split.0 high-split.1),
     )
 
 flag-inside-requires : tie.Need-flag-inside-requires
@@ -24,7 +24,7 @@ flag-inside-requires c κs =
     let pre = high-split.before.before.before.requires in (
       (second_stored _ _ _ _ pre.1.0 _ _ pre.0 pre.1.1 high-split.split_at.ensures.0 high-split.split_at.ensures.1
           low-split.split-at2.ensures.0 low-split.split-at2.ensures.1).good,
-      (pre.1.0.set-legal, pre.1.0.clear-legal),
+      (pre.1.0.set_legal, pre.1.0.clear_legal),
     )
 
 same_length : tie.Need-same-length

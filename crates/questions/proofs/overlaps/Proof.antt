@@ -19,26 +19,26 @@ accepted-requires : tie.Need-accepted-requires
 accepted-requires c κs = search rules
 
 -- past the test the range is accepted
-passed : (c : tie.Else1) → number c.before.before.range-answer.result ≡ 0
+passed : (c : tie.Else1) → number c.before.before.range_answer.result ≡ 0
 passed c = eqb-true _ _ (sym c.before.accepted.ensures ∙ not-false _ c.if1.false)
 
 range : (c : tie.Else1) →
     Range c.before.before.before.before.before.args.areas.now c.before.before.before.before.before.args.pages.now c.before.before.before.before.before.args.count c.before.before.before.before.before.args.start c.before.before.before.before.before.args.size
-range c = range_is _ _ _ _ _ (sym c.before.before.range-answer.ensures ∙ passed c)
+range c = range_is _ _ _ _ _ (sym c.before.before.range_answer.ensures ∙ passed c)
 
 returns : tie.Need-returns
 unfolding overlaps_rule
-returns c = rw (← c.before.before.range-answer.ensures) (reply_refused _ _ _ (eqb-false _ _ (sym c.before.accepted.ensures ∙ not-true _ c.if1.true)))
+returns c = rw (← c.before.before.range_answer.ensures) (reply_refused _ _ _ (eqb-false _ _ (sym c.before.accepted.ensures ∙ not-true _ c.if1.true)))
 
 add-any-overlap : tie.Need-overflow-add-any-overlap
-add-any-overlap c = omega (arith, range c, (tables_are _ _ _ (range c).tables).pages-few)
+add-any-overlap c = omega (arith, range c, (tables_are _ _ _ (range c).tables).pages_few)
 
 any-overlap-requires : tie.Need-any-overlap-requires
 any-overlap-requires c κs = sorted (tables_are _ _ _ (range c).tables)
 
 returns-2 : tie.Need-returns-2
 unfolding overlaps_rule
-returns-2 c = rw (← c.before.before.before.range-answer.ensures, ← c.any-overlap.ensures) (reply_accepted _ _ _ (passed c.before))
+returns-2 c = rw (← c.before.before.before.range_answer.ensures, ← c.any-overlap.ensures) (reply_accepted _ _ _ (passed c.before))
 
 pub overlaps_spec : {M : Type 1} → statement M
 overlaps_spec =

@@ -28,7 +28,7 @@ returns-3 : tie.Need-returns-3
 returns-3 c = sym (size_unaligned _ _ _ _ _ (tables c.before.before) c.if3.true)
 
 mul-space : tie.Need-overflow-mul-space
-mul-space c = omega (arith, (tables_are _ _ _ (tables c.before.before)).pages-few)
+mul-space c = omega (arith, (tables_are _ _ _ (tables c.before.before)).pages_few)
 
 returns-4 : tie.Need-returns-4
 returns-4 c = sym (range_past _ _ _ _ _ (tables c.before.before.before) (omega arith) (omega arith) (omega arith))

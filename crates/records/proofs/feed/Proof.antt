@@ -10,7 +10,7 @@ use Rattle.records.proofs.feed.Statement.{statement}
 use Rattle.records.proofs.feed.Tie as tie
 
 -- past the first test the piece is accepted
-passed : (c : tie.Else1) → number c.before.before.feed-answer.result ≡ 0
+passed : (c : tie.Else1) → number c.before.before.feed_answer.result ≡ 0
 passed c = eqb-true _ _ (sym c.before.accepted.ensures ∙ not-false _ c.if1.false)
 
 feed-answer-requires : tie.Need-feed-answer-requires
@@ -26,10 +26,10 @@ same-length-2 : tie.Need-same-length-2
 same-length-2 c = search rules
 
 returns : tie.Need-returns
-returns c = feed_refused _ _ _ _ _ _ c.before.before.feed-answer.ensures (eqb-false _ _ (sym c.before.accepted.ensures ∙ not-true _ c.if1.true))
+returns c = feed_refused _ _ _ _ _ _ c.before.before.feed_answer.ensures (eqb-false _ _ (sym c.before.accepted.ensures ∙ not-true _ c.if1.true))
 
 take-bytes-requires : tie.Need-take-bytes-requires
-take-bytes-requires c κs = feed_accepted _ _ _ _ (sym c.before.before.before.before.before.before.feed-answer.ensures ∙ passed c.before.before.before.before)
+take-bytes-requires c κs = feed_accepted _ _ _ _ (sym c.before.before.before.before.before.before.feed_answer.ensures ∙ passed c.before.before.before.before)
 
 same-length-3 : tie.Need-same-length-3
 same-length-3 c = search rules
@@ -46,8 +46,8 @@ same-length-6 c = search rules
 returns-2 : tie.Need-returns-2
 returns-2 c =
     let call = c.before.before.before.before.before.before.before.before.take-bytes in
-    let fits = feed_accepted _ _ _ _ (sym c.before.before.before.before.before.before.before.before.before.before.before.before.before.before.before.feed-answer.ensures ∙ passed c.before.before.before.before.before.before.before.before.before.before.before.before.before) in
-    feed_done _ _ _ _ _ _ c.before.before.before.before.before.before.before.before.before.before.before.before.before.before.before.feed-answer.ensures (passed c.before.before.before.before.before.before.before.before.before.before.before.before.before) _ call.result.filled
+    let fits = feed_accepted _ _ _ _ (sym c.before.before.before.before.before.before.before.before.before.before.before.before.before.before.before.feed_answer.ensures ∙ passed c.before.before.before.before.before.before.before.before.before.before.before.before.before) in
+    feed_done _ _ _ _ _ _ c.before.before.before.before.before.before.before.before.before.before.before.before.before.before.before.feed_answer.ensures (passed c.before.before.before.before.before.before.before.before.before.before.before.before.before) _ call.result.filled
     (length-take-le call.result.filled call.new.1.1.1.0 (omega (arith, call.ensures.1.1, call.auto.1.1.1.0, fits.0)))
     _ _ call.ensures.0 call.ensures.1.0
 

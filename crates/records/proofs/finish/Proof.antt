@@ -24,7 +24,7 @@ tables c = tables_are _ _ _ (told c)
 
 few : (c : tie.Else1) → c.before.before.before.before.before.args.count ≤ max_areas
 unfolding capacity_of
-few c = omega (arith, (tables c).count-few)
+few c = omega (arith, (tables c).count_few)
 
 good-requires : tie.Need-good-requires
 good-requires c κs = search rules

@@ -28,7 +28,7 @@ shared-slice-read-take-byte c = omega arith
 take-byte-requires : tie.Need-take-byte-requires invariant-loop decreases-loop
 take-byte-requires c κs =
     let z = c.before.before.before.before.before.before.loop.invariant.1 in
-    (z.record-long, (z.part, (λ e. omega arith, omega arith)))
+    (z.record_long, (z.part, (λ e. omega arith, omega arith)))
 
 add-k : tie.Need-overflow-add-k invariant-loop decreases-loop
 add-k c = omega arith
@@ -45,13 +45,13 @@ loop-again c =
     )
 
 same_length : tie.Need-same-length invariant-loop decreases-loop
-same_length c = c.before.loop.invariant.1.areas-long
+same_length c = c.before.loop.invariant.1.areas_long
 
 same-length-2 : tie.Need-same-length-2 invariant-loop decreases-loop
-same-length-2 c = c.before.loop.invariant.1.pages-long
+same-length-2 c = c.before.loop.invariant.1.pages_long
 
 same-length-3 : tie.Need-same-length-3 invariant-loop decreases-loop
-same-length-3 c = c.before.loop.invariant.1.bytes-long
+same-length-3 c = c.before.loop.invariant.1.bytes_long
 
 same-length-4 : tie.Need-same-length-4 invariant-loop decreases-loop
 same-length-4 c = c.before.loop.invariant.0.put.long

@@ -18,7 +18,7 @@ asked-requires c κs = search rules
 
 returns-2 : tie.Need-returns-2
 unfolding request_of
-returns-2 c = c.asked.ensures ∙ ap request_by c.before.fields-of.ensures ∙ sym (rw (eq-eqb _ _ c.before.before.if1.false))
+returns-2 c = c.asked.ensures ∙ ap request_by c.before.fields_of.ensures ∙ sym (rw (eq-eqb _ _ c.before.before.if1.false))
 
 pub decode_spec : {M : Type 1} → statement M
 decode_spec = tie.close (tie.spec returns fields-of-requires asked-requires returns-2)

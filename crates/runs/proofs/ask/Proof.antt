@@ -44,7 +44,7 @@ enum_told c = search rules
 
 returns : tie.Need-returns
 unfolding asked_line
-returns c = c.answer-line.ensures ∙ ap found_line c.before.before.find.ensures ∙ sym (rw c.before.before.before.before.request.given.1)
+returns c = c.answer_line.ensures ∙ ap found_line c.before.before.find.ensures ∙ sym (rw c.before.before.before.before.request.given.1)
 
 returns-2 : tie.Need-returns-2
 unfolding asked_line

@@ -25,7 +25,7 @@ same-length-2 c = search rules
 returns : tie.Need-returns
 returns c =
     let made = c.before.before.before.before.before.before.before.before.change in
-    two_steps _ _ _ _ _ made.ensures (c.answer-line.ensures ∙ ap (answer_line (number made.result.answer)) c.before.ask.ensures)
+    two_steps _ _ _ _ _ made.ensures (c.answer_line.ensures ∙ ap (answer_line (number made.result.answer)) c.before.ask.ensures)
 
 pub run_spec : {M : Type 1} → statement M
 run_spec =

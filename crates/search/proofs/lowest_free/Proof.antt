@@ -37,10 +37,10 @@ setting c =
     let pre = c.before.before.before.requires in
     let tables = tables_are _ _ _ pre.0 in
     let top = top-is c.before in
-    record { ordered = tables.ordered; counted = length_rows _ _; small = omega (arith, tables.pages-few); legal = pre.1; room = omega arith }
+    record { ordered = tables.ordered; counted = length_rows _ _; small = omega (arith, tables.pages_few); legal = pre.1; room = omega arith }
 
 mul-space : tie.Need-overflow-mul-space invariant-loop decreases-loop
-mul-space c = let t = tables_are _ _ _ c.before.requires.0 in omega (arith, t.pages-few)
+mul-space c = let t = tables_are _ _ _ c.before.requires.0 in omega (arith, t.pages_few)
 
 returns : tie.Need-returns invariant-loop decreases-loop
 returns c = let t = top-is c.before in sym (none_is _ _ (λ b f. omega arith))

@@ -22,13 +22,13 @@ abbrev decreases-loop : tie.decreases-loop
 decreases-loop areas₀ pages₀ lines bytes₀ at₀ blocks₀ areas pages bytes at blocks = blocks
 
 loop-holds : tie.Need-loop-init invariant-loop decreases-loop
-loop-holds c = record { areas-long = refl; pages-long = refl; bytes-long = refl; part = omega arith }
+loop-holds c = record { areas_long = refl; pages_long = refl; bytes_long = refl; part = omega arith }
 
 slice-aggregate-take-block : tie.Need-slice-aggregate-take-block invariant-loop decreases-loop
-slice-aggregate-take-block c = sym c.before.before.before.before.before.loop.invariant.bytes-long
+slice-aggregate-take-block c = sym c.before.before.before.before.before.loop.invariant.bytes_long
 
 take-block-requires : tie.Need-take-block-requires invariant-loop decreases-loop
-take-block-requires c κs = (c.before.before.before.before.before.loop.invariant.bytes-long, c.before.before.before.before.before.loop.invariant.part)
+take-block-requires c κs = (c.before.before.before.before.before.loop.invariant.bytes_long, c.before.before.before.before.before.loop.invariant.part)
 
 sub-blocks : tie.Need-overflow-sub-blocks invariant-loop decreases-loop
 sub-blocks c = omega arith
@@ -41,26 +41,26 @@ loop-again c =
     let call = c.before.before.before.before.before.take-block in
     let inv = c.before.before.before.before.before.before.before.before.before.before.before.loop.invariant in
     record {
-      areas-long = call.auto.0 ∙ inv.areas-long;
-      pages-long = call.auto.1.0 ∙ inv.pages-long;
-      bytes-long = call.auto.1.1.0 ∙ inv.bytes-long;
+      areas_long = call.auto.0 ∙ inv.areas_long;
+      pages_long = call.auto.1.0 ∙ inv.pages_long;
+      bytes_long = call.auto.1.1.0 ∙ inv.bytes_long;
       part = call.ensures;
     }
 
 same_length : tie.Need-same-length invariant-loop decreases-loop
-same_length c = c.before.before.loop.invariant.areas-long
+same_length c = c.before.before.loop.invariant.areas_long
 
 same-length-2 : tie.Need-same-length-2 invariant-loop decreases-loop
-same-length-2 c = c.before.before.loop.invariant.pages-long
+same-length-2 c = c.before.before.loop.invariant.pages_long
 
 returns : tie.Need-returns invariant-loop decreases-loop
 returns c = c.before.before.loop.invariant.part
 
 same-length-3 : tie.Need-same-length-3 invariant-loop decreases-loop
-same-length-3 c = c.before.loop.invariant.areas-long
+same-length-3 c = c.before.loop.invariant.areas_long
 
 same-length-4 : tie.Need-same-length-4 invariant-loop decreases-loop
-same-length-4 c = c.before.loop.invariant.pages-long
+same-length-4 c = c.before.loop.invariant.pages_long
 
 returns-2 : tie.Need-returns-2 invariant-loop decreases-loop
 returns-2 c = c.before.loop.invariant.part

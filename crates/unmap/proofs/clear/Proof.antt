@@ -26,7 +26,7 @@ returns : tie.Need-returns
 returns c = clear_refused _ _ _ (sym c.before.good2.ensures ∙ not-true _ c.if1.true)
 
 mul-space : tie.Need-overflow-mul-space
-mul-space c = omega (arith, (tables_are _ _ _ (tables c)).pages-few)
+mul-space c = omega (arith, (tables_are _ _ _ (tables c)).pages_few)
 
 wipe-areas-requires : tie.Need-wipe-areas-requires
 wipe-areas-requires c κs = tables c.before.before

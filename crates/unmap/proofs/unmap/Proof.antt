@@ -12,12 +12,12 @@ use Rattle.unmap.proofs.unmap.Statement.{statement}
 use Rattle.unmap.proofs.unmap.Tie as tie
 
 -- past the first test the range is accepted
-passed : (c : tie.Else1) → number c.before.before.range-answer.result ≡ 0
+passed : (c : tie.Else1) → number c.before.before.range_answer.result ≡ 0
 passed c = eqb-true _ _ (sym c.before.accepted.ensures ∙ not-false _ c.if1.false)
 
 range : (c : tie.Else1) → let at = c.before.before.before.before.before.before.before.args in
     Range at.areas.now at.pages.now at.count at.start at.size
-range c = range_is _ _ _ _ _ (sym c.before.before.range-answer.ensures ∙ passed c)
+range c = range_is _ _ _ _ _ (sym c.before.before.range_answer.ensures ∙ passed c)
 
 range-answer-requires : tie.Need-range-answer-requires
 range-answer-requires c κs = search rules
@@ -32,7 +32,7 @@ same-length-2 : tie.Need-same-length-2
 same-length-2 c = search rules
 
 returns : tie.Need-returns
-returns c = unmap_refused _ _ _ _ _ _ c.before.before.range-answer.ensures (eqb-false _ _ (sym c.before.accepted.ensures ∙ not-true _ c.if1.true))
+returns c = unmap_refused _ _ _ _ _ _ c.before.before.range_answer.ensures (eqb-false _ _ (sym c.before.accepted.ensures ∙ not-true _ c.if1.true))
 
 same-length-3 : tie.Need-same-length-3
 same-length-3 c = search rules
@@ -41,7 +41,7 @@ same-length-4 : tie.Need-same-length-4
 same-length-4 c = search rules
 
 returns-2 : tie.Need-returns-2
-returns-2 c = unmap_nothing _ _ _ _ _ _ c.before.before.before.range-answer.ensures (passed c.before) c.if2.true
+returns-2 c = unmap_nothing _ _ _ _ _ _ c.before.before.before.range_answer.ensures (passed c.before) c.if2.true
 
 add-end : tie.Need-overflow-add-end
 add-end c = omega (arith, range_small (range c.before))
@@ -76,7 +76,7 @@ same-length-6 c = search rules
 returns-3 : tie.Need-returns-3
 returns-3 c =
     let s = c.before.before.before.before.before in
-    unmap_no_room _ _ _ _ _ _ s.before.before.before.before.before.before.range-answer.ensures (passed s.before.before.before.before) (omega arith) _ s.before.find-gap.ensures _ s.sides.ensures
+    unmap_no_room _ _ _ _ _ _ s.before.before.before.before.before.before.range_answer.ensures (passed s.before.before.before.before) (omega arith) _ s.before.find-gap.ensures _ s.sides.ensures
     (omega (arith, c.before.capacity.ensures))
 
 wipe-areas-requires : tie.Need-wipe-areas-requires
@@ -98,7 +98,7 @@ same-length-8 c = search rules
 returns-4 : tie.Need-returns-4
 returns-4 c =
     let s = c.before.before.before.before.before.before.before.before.before.before.before.before.before.before in
-    unmap_done _ _ _ _ _ _ s.before.before.before.before.before.before.range-answer.ensures (passed s.before.before.before.before) (omega arith) _ s.before.find-gap.ensures _ s.sides.ensures
+    unmap_done _ _ _ _ _ _ s.before.before.before.before.before.before.range_answer.ensures (passed s.before.before.before.before) (omega arith) _ s.before.find-gap.ensures _ s.sides.ensures
     _ _ _ (omega (arith, c.before.before.before.before.before.before.before.before.before.before.capacity.ensures, c.before.before.before.before.before.before.before.before.before.if3.false)) c.before.before.splice.ensures.1 c.before.before.before.before.before.before.wipe-areas.ensures c.before.before.splice.ensures.0
 
 pub unmap_spec : {M : Type 1} → statement M

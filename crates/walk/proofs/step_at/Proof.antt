@@ -27,16 +27,16 @@ enum_told : tie.Need-enum-told
 enum_told c = search rules
 
 add-t6 : tie.Need-overflow-add-t6
-add-t6 c = omega (arith, (some_has _ _ _ _ (sym c.before.before.item-at.ensures ∙ c.enum_told.given.1)).below)
+add-t6 c = omega (arith, (some_has _ _ _ _ (sym c.before.before.item_at.ensures ∙ c.enum_told.given.1)).below)
 
 enum-told-2 : tie.Need-enum-told-2
 enum-told-2 c = search rules
 
 returns : tie.Need-returns
-returns c = goes_on _ _ _ _ c.before.before.item-at.ensures _ c.enum_told.given.1
+returns c = goes_on _ _ _ _ c.before.before.item_at.ensures _ c.enum_told.given.1
 
 returns-2 : tie.Need-returns-2
-returns-2 c = stays _ _ _ _ c.before.before.item-at.ensures c.enum-told2.given.1
+returns-2 c = stays _ _ _ _ c.before.before.item_at.ensures c.enum-told2.given.1
 
 pub step_at_spec : {M : Type 1} → statement M
 step_at_spec = tie.close (tie.spec item-at-requires enum_told add-t6 enum-told-2 returns returns-2)

@@ -55,7 +55,7 @@ returns-2 c = c.map2.ensures ∙ sym (by_op c.before.before.args.self 2 c.before
 
 returns-3 : tie.Need-returns-3
 unfolding chosen
-returns-3 c = c.unless.ensures ∙ unless_blank _ c.before.beside-range.ensures ∙ sym (by_op c.before.before.before.args.self 3 c.before.before.match.keys3)
+returns-3 c = c.unless.ensures ∙ unless_blank _ c.before.beside_range.ensures ∙ sym (by_op c.before.before.before.args.self 3 c.before.before.match.keys3)
 
 returns-4 : tie.Need-returns-4
 unfolding chosen
