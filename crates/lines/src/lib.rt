@@ -13,7 +13,7 @@ const ADDRESS: usize = 16;
 
 const FLAGS: usize = 1;
 
-#[derive(Drop)]
+#[derive(Clone, Copy)]
 pub enum Line {
     // A change was accepted.
     Ok,

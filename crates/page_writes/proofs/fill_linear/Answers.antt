@@ -25,7 +25,7 @@ loop-page-smaller c = omega arith
 pub loop-page-preserved : goal.loop-page-preserved
 unfolding writes entry_of
 loop-page-preserved c = goes_on c.loop-page.invariant _ c.loop-page-test.true (omega arith)
-    (c.packed.ensures ∙ rw c.UNRESOLVED.linear_frame_lem.ensures)
+    (c.packed.ensures ∙ rw c.linear_frame.ensures)
 
 pub shape_of-pages : goal.shape_of-pages
 shape_of-pages c = c.loop-page.invariant.long
