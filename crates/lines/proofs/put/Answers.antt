@@ -27,10 +27,10 @@ pub loop-k-smaller : goal.loop-k-smaller
 loop-k-smaller c = omega arith
 
 pub loop-k-preserved : goal.loop-k-preserved
-loop-k-preserved c = let long = length-take-le c.args.t3.1 c.args.t3.0 (omega (arith, c.requires)) in (
+loop-k-preserved c = let long = length-take-le c.args.text.1 c.args.text.0 (omega (arith, c.requires)) in (
       omega arith,
       rise_goes_on c.loop-k.invariant.1 (omega (arith, long, c.requires)) (omega (arith, long)) _ _ _ (omega arith) (omega arith)
-          (sym (get_or-take c.args.t3.1 c.args.t3.0 _ 0 (omega arith))),
+          (sym (get_or-take c.args.text.1 c.args.text.0 _ 0 (omega arith))),
     )
 
 pub overflow_add-result : goal.overflow_add-result
@@ -40,8 +40,8 @@ pub shape_of-out : goal.shape_of-out
 shape_of-out c = c.loop-k.invariant.1.long
 
 pub returns : goal.returns
-returns c = let long = length-take-le c.args.t3.1 c.args.t3.0 (omega (arith, c.requires)) in (
-      puts c.args.out.now c.args.at (take c.args.t3.1 c.args.t3.0) _ _ (omega (arith, long, c.requires))
+returns c = let long = length-take-le c.args.text.1 c.args.text.0 (omega (arith, c.requires)) in (
+      puts c.args.out.now c.args.at (take c.args.text.1 c.args.text.0) _ _ (omega (arith, long, c.requires))
           (rise_ends c.loop-k.invariant.1 (omega (arith, long))) (omega (arith, long)),
       omega arith,
     )

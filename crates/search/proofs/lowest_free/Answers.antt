@@ -13,44 +13,49 @@ use Rattle.search.specs.Free.{asked}
 use Rattle.search.proofs.Search.{none_is}
 use Rattle.search.proofs.Pass.{Setting, align_fits, pass_begins, pass_none, pass_found, pass_ends, pass_skips, pass_moves, end_small}
 use Rattle.search.proofs.lowest_free.Goals as goal
-
--- what the two choices before the pass make
-top-is : (c : tie.Joined1 invariant-loop decreases-loop) → let start = c.before.before.args in c.if1.top ≡ min start.high (space_of start.pages)
-top-is c = ⊎_elim (λ w. omega arith) (λ w. omega arith) c.if1.branch
-
-from_is : (c : tie.Joined3 invariant-loop decreases-loop) → let start = c.before.before.before.before.before.args in c.if3.from ≡ max start.hint start.low
-from_is c = ⊎_elim (λ w. omega arith) (λ w. omega arith) c.if3.branch
-
-setting : (c : tie.Else2 invariant-loop decreases-loop) → let start = c.before.before.before.args in
-    Setting (rows start.areas.now start.count) start.count
-    (asked start.hint start.size start.low start.high start.align (space_of start.pages)) (c.before.if1.top - start.size)
-setting c =
-    let pre = c.before.before.before.requires in
-    let tables = tables_are _ _ _ pre.0 in
-    let top = top-is c.before in
-    record { ordered = tables.ordered; counted = length_rows _ _; small = omega (arith, tables.pages_few); legal = pre.1; room = omega arith }
+use Rattle.search.proofs.lowest_free.Goals.{then-high-space, else-high-space, then-hint-low, else-hint-low, then-at-area, else-at-area}
 
 pub overflow_mul-space : goal.overflow_mul-space
 overflow_mul-space c = let t = tables_are _ _ _ c.requires.pages_value in omega (arith, t.pages_few)
 
 pub returns-then-top-size : goal.returns-then-top-size
-returns-then-top-size c = let t = top-is c in sym (none_is _ _ (λ b f. omega arith))
+returns-then-top-size c =
+    let t : c.if-high-space.top ≡ min c.args.high (space_of c.args.pages) =
+        elim c.if-high-space.branch [ then-high-space w ↦ omega arith | else-high-space w ↦ omega arith ] in
+    sym (none_is _ _ (λ b f. omega arith))
 
 pub returns-then-last-from : goal.returns-then-last-from
-returns-then-last-from c = let t = top-is c in
-    let s = from_is c in
+returns-then-last-from c =
+    let t : c.if-high-space.top ≡ min c.args.high (space_of c.args.pages) =
+        elim c.if-high-space.branch [ then-high-space w ↦ omega arith | else-high-space w ↦ omega arith ] in
+    let s : c.if-hint-low.from ≡ max c.args.hint c.args.low =
+        elim c.if-hint-low.branch [ then-hint-low w ↦ omega arith | else-hint-low w ↦ omega arith ] in
     sym (none_is _ _ (λ b f. omega arith))
 
 pub align_up-at-requires : goal.align_up-at-requires
-align_up-at-requires c = let s = setting c in (s.legal.power, omega (arith, s.room, s.small, align_fits s.legal))
+align_up-at-requires c =
+    let t : c.if-high-space.top ≡ min c.args.high (space_of c.args.pages) =
+        elim c.if-high-space.branch [ then-high-space w ↦ omega arith | else-high-space w ↦ omega arith ] in
+    let tables = tables_are _ _ _ c.requires.pages_value in
+    let setting : Setting (rows c.args.areas.now c.args.count) c.args.count (asked c.args.hint c.args.size c.args.low c.args.high c.args.align (space_of c.args.pages)) (c.if-high-space.top - c.args.size) =
+        record { ordered = tables.ordered; counted = length_rows _ _; small = omega (arith, tables.pages_few); legal = c.requires.legal_search; room = omega arith } in
+    record { align_value = setting.legal.power; align_bound = omega (arith, setting.room, setting.small, align_fits setting.legal) }
 
 pub first_ending_past-slot-requires : goal.first_ending_past-slot-requires
 first_ending_past-slot-requires c = sorted (tables_are _ _ _ c.requires.pages_value)
 
 pub loop-slot-init : goal.loop-slot-init
-loop-slot-init c = (
+loop-slot-init c =
+    let t : c.if-high-space.top ≡ min c.args.high (space_of c.args.pages) =
+        elim c.if-high-space.branch [ then-high-space w ↦ omega arith | else-high-space w ↦ omega arith ] in
+    let s : c.if-hint-low.from ≡ max c.args.hint c.args.low =
+        elim c.if-hint-low.branch [ then-hint-low w ↦ omega arith | else-hint-low w ↦ omega arith ] in
+    let tables = tables_are _ _ _ c.requires.pages_value in
+    let setting : Setting (rows c.args.areas.now c.args.count) c.args.count (asked c.args.hint c.args.size c.args.low c.args.high c.args.align (space_of c.args.pages)) (c.if-high-space.top - c.args.size) =
+        record { ordered = tables.ordered; counted = length_rows _ _; small = omega (arith, tables.pages_few); legal = c.requires.legal_search; room = omega arith } in
+    (
       sorted (tables_are _ _ _ c.requires.pages_value),
-      pass_begins _ _ _ (setting c) (from_is c) c.align_up-at.ensures c.first_ending_past-slot.ensures,
+      pass_begins _ _ _ setting s c.align_up-at.ensures c.first_ending_past-slot.ensures,
     )
 
 pub returns-then-last-at : goal.returns-then-last-at
@@ -83,10 +88,10 @@ loop-slot-smaller c = omega arith
 pub loop-slot-preserved : goal.loop-slot-preserved
 loop-slot-preserved c = (
       c.loop-slot.invariant.0,
-      ⊎_elim
-          (λ w. pass_moves c.loop-slot.invariant.1 _ c.loop-slot-test.true c.area_at-area.ensures _ c.if-at-size.false w.0.taken (w.2 ∙ w.1.ensures))
-          (λ w. pass_skips c.loop-slot.invariant.1 _ c.loop-slot-test.true c.area_at-area.ensures _ w.0.left w.1)
-          c.if-at-area.branch,
+      elim c.if-at-area.branch [
+        then-at-area w ↦ pass_moves c.loop-slot.invariant.1 _ c.loop-slot-test.true c.area_at-area.ensures _ c.if-at-size.false w.if-at-area.true (w.at-is ∙ w.align_up-at-then-at-area.ensures)
+      | else-at-area w ↦ pass_skips c.loop-slot.invariant.1 _ c.loop-slot-test.true c.area_at-area.ensures _ w.if-at-area.false w.at-is
+      ],
     )
 
 pub returns-then-last-at-2 : goal.returns-then-last-at-2

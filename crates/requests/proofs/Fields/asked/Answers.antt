@@ -37,4 +37,4 @@ unfolding chosen
 returns-in-8 c = c.unless-in-8.ensures ∙ unless_blank _ (both (both one one) c.beside_range-in-8.ensures) ∙ sym (by_op c.args.self 8 c.in-8.is)
 
 pub returns-in_default : goal.returns-in_default
-returns-in_default c = no_op c.args.self c.in_default-own.rest.0.0.0.0.0.0.0.1 c.in_default.rest.0.0.0.0.0.0.1 c.in_default.rest.0.0.0.0.0.1 c.in_default.rest.0.0.0.0.1 c.in_default.rest.0.0.0.1 c.in_default.rest.0.0.1 c.in_default.rest.0.1 c.in_default.rest.1
+returns-in_default c = no_op c.args.self c.in_default.in_default-own.rest.0.0.0.0.0.0.0.1 c.in_default.in_default-own.rest.0.0.0.0.0.0.1 c.in_default.in_default-own.rest.0.0.0.0.0.1 c.in_default.in_default-own.rest.0.0.0.0.1 c.in_default.in_default-own.rest.0.0.0.1 c.in_default.in_default-own.rest.0.0.1 c.in_default.in_default-own.rest.0.1 c.in_default.in_default-own.rest.1
