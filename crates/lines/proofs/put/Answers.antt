@@ -28,10 +28,10 @@ loop-k-smaller c = omega arith
 
 pub loop-k-preserved : goal.loop-k-preserved
 loop-k-preserved c = let long = length-take-le c.args.text.1 c.args.text.0 (omega (arith, c.requires)) in (
-      omega arith,
-      rise_goes_on c.loop-k.invariant.1 (omega (arith, long, c.requires)) (omega (arith, long)) _ _ _ (omega arith) (omega arith)
-          (sym (get_or-take c.args.text.1 c.args.text.0 _ 0 (omega arith))),
-    )
+  omega arith,
+  rise_goes_on c.loop-k.invariant.1 (omega (arith, long, c.requires)) (omega (arith, long)) _ _ _ (omega arith) (omega arith)
+      (sym (get_or-take c.args.text.1 c.args.text.0 _ 0 (omega arith))),
+)
 
 pub overflow_add-result : goal.overflow_add-result
 overflow_add-result c = omega arith
@@ -41,7 +41,7 @@ shape_of-out c = c.loop-k.invariant.1.long
 
 pub returns : goal.returns
 returns c = let long = length-take-le c.args.text.1 c.args.text.0 (omega (arith, c.requires)) in (
-      puts c.args.out.now c.args.at (take c.args.text.1 c.args.text.0) _ _ (omega (arith, long, c.requires))
-          (rise_ends c.loop-k.invariant.1 (omega (arith, long))) (omega (arith, long)),
-      omega arith,
-    )
+  puts c.args.out.now c.args.at (take c.args.text.1 c.args.text.0) _ _ (omega (arith, long, c.requires))
+      (rise_ends c.loop-k.invariant.1 (omega (arith, long))) (omega (arith, long)),
+  omega arith,
+)
