@@ -70,4 +70,4 @@ pub shape_of-out-in-Ok : goal.shape_of-out-in-Ok
 shape_of-out-in-Ok c = omega arith
 
 pub returns-in-Ok : goal.returns-in-Ok
-returns-in-Ok c = put_tail _ _ _ c.head.ensures.0 c.put-at.ensures.0 (no_tail _ c.in-Ok.keys4) (put_nothing _ _ (omega arith))
+returns-in-Ok c = put_tail _ _ _ c.head.ensures.0 c.put-at.ensures.0 (let h = c.in-Ok.is in ?) (put_nothing _ _ (omega arith))
