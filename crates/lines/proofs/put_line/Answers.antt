@@ -10,23 +10,9 @@ use Rattle.lines.specs.Line.{tail_bytes}
 use Rattle.lines.specs.declared.Line.{Line}
 use Rattle.lines.specs.declared.Line.TheVariants.{Ok, No, In, At, Over, Free, Bad, Cut, Area}
 use Rattle.lines.specs.contracts.Line.{the_type}
+use mathlib.Core.Logic.{inl, inr}
+use mathlib.Core.Path.{◌≡◌}
 use Rattle.lines.proofs.put_line.Goals as goal
-
--- the variants that have no address
-abbrev heads : List ℕ
-heads = 0 ∷ 1 ∷ 4 ∷ 5 ∷ 6 ∷ 7 ∷ []
-
-no_tail : (line : Line) → OneOf heads (tag_of the_type line) → tail_bytes line ≡ []
-unfolding tail_bytes
-no_tail Ok h = refl
-no_tail (No a) h = refl
-no_tail (In start end) h = absurd (miss heads 2 tt h)
-no_tail (At a) h = absurd (miss heads 3 tt h)
-no_tail Over h = refl
-no_tail Free h = refl
-no_tail Bad h = refl
-no_tail Cut h = refl
-no_tail (Area start end flags) h = absurd (miss heads 8 tt h)
 
 pub put-at-requires : goal.put-at-requires
 put-at-requires c = omega arith
@@ -70,4 +56,10 @@ pub shape_of-out-in-Ok : goal.shape_of-out-in-Ok
 shape_of-out-in-Ok c = omega arith
 
 pub returns-in-Ok : goal.returns-in-Ok
-returns-in-Ok c = put_tail _ _ _ c.head.ensures.0 c.put-at.ensures.0 (let h = c.in-Ok.is in ?) (put_nothing _ _ (omega arith))
+unfolding tail_bytes
+returns-in-Ok c =
+    let no_tail : tail_bytes c.args.line ≡ [] = elim c.in-Ok.is [
+      inl e ↦ rw e
+    | inr r ↦ elim r [ inl e ↦ rw e.1 | inr s ↦ elim s [ inl e ↦ rw e | inr t ↦ elim t [ inl e ↦ rw e | inr u ↦ elim u [ inl e ↦ rw e | inr e ↦ rw e ] ] ] ]
+    ] in
+    put_tail _ _ _ c.head.ensures.0 c.put-at.ensures.0 no_tail (put_nothing _ _ (omega arith))

@@ -12,8 +12,10 @@ returns-then-cut_slot-count c = (
   length_one _ _ _ _ (tables_are _ _ _ c.requires.max_pages_value).ordered _ c.cut_slot.ensures (rw length_rows c.if-cut_slot-count.true)
       ∙ rw length_rows,
   omega arith,
+)
 
 pub returns-else-cut_slot-count : goal.returns-else-cut_slot-count
 returns-else-cut_slot-count c = (
   length_none _ _ _ _ _ c.cut_slot.ensures (rw length_rows c.if-cut_slot-count.false) ∙ rw (length_rows, add-zero),
   omega arith,
+)

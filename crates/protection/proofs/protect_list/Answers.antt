@@ -22,7 +22,7 @@ split_at-all-requires-clause-count_len_bound c = second_fits _ _ _ _ c.requires.
 
 pub flag_inside-requires-clause-max_pages_value : goal.flag_inside-requires-clause-max_pages_value
 flag_inside-requires-clause-max_pages_value c = (second_stored _ _ _ _ c.requires.protect_range _ _ c.requires.max_pages_value c.requires.count_len_bound c.split_at-more.ensures.0 c.split_at-more.ensures.1
-          c.split_at-all.ensures.0 c.split_at-all.ensures.1).good
+    c.split_at-all.ensures.0 c.split_at-all.ensures.1).good
 
 pub flag_inside-requires-clause-set_le_max_flags : goal.flag_inside-requires-clause-set_le_max_flags
 flag_inside-requires-clause-set_le_max_flags c = c.requires.protect_range.set_legal
