@@ -1,0 +1,34 @@
+-- `put_words` meets its contract. The loop's invariant: the first k words are written, and next is the place after them.
+-- Assumes nothing.
+use Prim.Native.Nat.{◌-◌}
+use mathlib.Core.Path.{refl}
+use native.Mathlib.Omega.{arith}
+use Rattle.dumps.proofs.Writing.{lists_begins, lists_on, lists_ends}
+use Rattle.dumps.proofs.put_words.Goals as goal
+
+pub loop-k-init : goal.loop-k-init
+loop-k-init c = lists_begins _ _ _ _ (omega arith)
+
+pub offset_bounds-words-k : goal.offset_bounds-words-k
+offset_bounds-words-k c = omega arith
+
+pub bounds-words-k : goal.bounds-words-k
+bounds-words-k c = omega arith
+
+pub put_number-next-requires : goal.put_number-next-requires
+put_number-next-requires c = omega (arith, c.loop-k.invariant.done.long, c.loop-k.invariant.at_next)
+
+pub overflow_add-k : goal.overflow_add-k
+overflow_add-k c = omega arith
+
+pub loop-k-smaller : goal.loop-k-smaller
+loop-k-smaller c = omega arith
+
+pub loop-k-preserved : goal.loop-k-preserved
+loop-k-preserved c = lists_on c.loop-k.invariant _ _ _ c.loop-k-test.true refl c.put_number-next.ensures
+
+pub shape_of-out : goal.shape_of-out
+shape_of-out c = c.loop-k.invariant.done.long
+
+pub returns : goal.returns
+returns c = lists_ends c.loop-k.invariant c.loop-k-test.false
