@@ -56,7 +56,8 @@ unfolding numbers_at all_bytes
 numbers_back size [] rest f = refl
 numbers_back size (n ∷ ns) rest f =
     let at : 0 + size ≡ length (bytes_of size n) + 0 = omega (arith, length_bytes size n) in
-    rw (append_assoc (bytes_of size n) (all_bytes size ns) rest, number_back size n (all_bytes size ns ++ rest) (f 0 (omega arith)), at)
+    ap (λ (l : List ℕ). numbers_at l 0 size (suc (length ns))) (append_assoc (bytes_of size n) (all_bytes size ns) rest)
+    ∙ rw (number_back size n (all_bytes size ns ++ rest) (f 0 (omega arith)), at)
     (ap (λ (l : List ℕ). n ∷ l)
     (numbers_past (bytes_of size n) (all_bytes size ns ++ rest) size (length ns) 0
     ∙ numbers_back size ns rest (λ k h. f (suc k) (omega arith))))

@@ -16,7 +16,7 @@ pub const RECORD: usize = 32;
 const MAX_EXPONENT: u32 = 63;
 
 // What a record asks for.
-#[derive(Drop)]
+#[derive(Clone, Copy)]
 pub enum Request {
     Map {
         start: u64,

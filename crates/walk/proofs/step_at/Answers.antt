@@ -1,6 +1,5 @@
 -- `step_at` meets its contract: a slot with an area is below the count, so the next slot fits. Assumes nothing.
 use native.Mathlib.Omega.{arith}
-use borrow.Author.Rules.{rules}
 use Prim.Native.Nat.{ℕ, ◌+◌}
 use mathlib.Core.Path.{◌≡◌, ◌∙◌, sym}
 use mathlib.Core.List.{List}
@@ -10,8 +9,7 @@ use Rattle.area_list.specs.declared.Item.{Item}
 use Rattle.area_list.specs.declared.Item.TheVariants.{Some, None}
 use Rattle.area_list.proofs.Items.{some_has}
 use Rattle.walk.specs.Walking.{step_at}
-use Rattle.walk.proofs.step_at.Statement.{statement}
-use Rattle.walk.proofs.step_at.Tie as tie
+use Rattle.walk.proofs.step_at.Goals as goal
 
 module _ (ws : List ℕ) (count slot : ℕ) (item : Item) (e : item ≡ item_at ws count slot) where
   goes_on : (area : Area) → item ≡ Some area → record { item = item; slot = slot + 1 } ≡ step_at ws count slot
@@ -20,23 +18,11 @@ module _ (ws : List ℕ) (count slot : ℕ) (item : Item) (e : item ≡ item_at 
   stays : item ≡ None → record { item = item; slot = slot } ≡ step_at ws count slot
   stays s = rw (← e, s)
 
-item-at-requires : tie.Need-item-at-requires
-item-at-requires c κs = search rules
+pub overflow_add-result : goal.overflow_add-result
+overflow_add-result c = omega (arith, (some_has _ _ _ _ (sym c.item_at-item.ensures ∙ c.in-Some.is)).below)
 
-enum_told : tie.Need-enum-told
-enum_told c = search rules
+pub returns-in-Some : goal.returns-in-Some
+returns-in-Some c = goes_on _ _ _ _ c.item_at-item.ensures _ c.in-Some.is
 
-add-t6 : tie.Need-overflow-add-t6
-add-t6 c = omega (arith, (some_has _ _ _ _ (sym c.before.before.item_at.ensures ∙ c.enum_told.given.1)).below)
-
-enum-told-2 : tie.Need-enum-told-2
-enum-told-2 c = search rules
-
-returns : tie.Need-returns
-returns c = goes_on _ _ _ _ c.before.before.item_at.ensures _ c.enum_told.given.1
-
-returns-2 : tie.Need-returns-2
-returns-2 c = stays _ _ _ _ c.before.before.item_at.ensures c.enum-told2.given.1
-
-pub step_at_spec : {M : Type 1} → statement M
-step_at_spec = tie.close (tie.spec item-at-requires enum_told add-t6 enum-told-2 returns returns-2)
+pub returns-in-None : goal.returns-in-None
+returns-in-None c = stays _ _ _ _ c.item_at-item.ensures c.in-None.is
