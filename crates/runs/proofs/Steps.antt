@@ -8,11 +8,13 @@ use native.Mathlib.Omega.{arith}
 use lib.ListN.{length}
 use types.Run.{OneOf, miss}
 use denote.Enum.Declared.{tag_of}
+use mathlib.Core.Bool.{Bool}
+use Rattle.page_table.specs.declared.Backend.{Backend}
 use Rattle.area.specs.Answer.{number, Reply, reply}
 use Rattle.area.specs.declared.Answer.{Answer}
 use Rattle.rules.specs.Change.{Tables}
 use Rattle.questions.specs.Question.{overlaps_rule}
-use Rattle.lines.specs.Line.{no_line_lem, longest_line, line_bytes}
+use Rattle.lines.specs.Line.{no_line, longest_line, line_bytes}
 use Rattle.lines.proofs.Lines.{line_short}
 use Rattle.runs.specs.Step.{ran, step_outcome, answer_line, changed_ran, run_rule, step_rule, change_rule, asked_line}
 use Rattle.runs.specs.declared.Stepped.{Stepped}
@@ -28,7 +30,7 @@ unfolding answer_line
 accepted_line zero line e = refl
 accepted_line (suc n) line e = absurd (omega arith)
 
-no_line_lem : (n : ℕ) (line : List ℕ) → (n ≡ 0 → ⊥) → no_line_lem n ≡ answer_line n line
+no_line_lem : (n : ℕ) (line : List ℕ) → (n ≡ 0 → ⊥) → no_line n ≡ answer_line n line
 unfolding answer_line
 no_line_lem zero line z = absurd (z refl)
 no_line_lem (suc n) line z = refl
@@ -39,37 +41,34 @@ refused_line answer said z = no_line_lem (number answer) said z
 
 -- ---- the change
 
--- find, overlaps, search and a bad request, by their places in `Request`
-abbrev no_change_lem : List ℕ
-no_change_lem = 3 ∷ 4 ∷ 5 ∷ 7 ∷ []
-
-pub no_change_lem : (t : Tables) (r : Request) → OneOf no_change_lem (tag_of the_type r) → reply 0 t ≡ change_rule t r
+-- find, overlaps, search and a bad request change nothing
+pub no_change : (t : Tables) (r : Request) → ((start size flags : ℕ) (backend : Backend) (replace : Bool) → r ≡ request.Map start size flags backend replace → ⊥)
+    → ((start size : ℕ) → r ≡ request.Unmap start size → ⊥) → ((start size set clear : ℕ) → r ≡ request.Protect start size set clear → ⊥)
+    → (r ≡ request.Clear → ⊥) → reply 0 t ≡ change_rule t r
 unfolding change_rule
-no_change_lem t (request.Map start size flags backend replace) k = absurd (miss no_change_lem 0 tt k)
-no_change_lem t (request.Unmap start size) k = absurd (miss no_change_lem 1 tt k)
-no_change_lem t (request.Protect start size set clear) k = absurd (miss no_change_lem 2 tt k)
-no_change_lem t (request.Find address) k = refl
-no_change_lem t (request.Overlaps start size) k = refl
-no_change_lem t (request.Search hint size limit align) k = refl
-no_change_lem t request.Clear k = absurd (miss no_change_lem 6 tt k)
-no_change_lem t request.Bad k = refl
+no_change t (request.Map start size flags backend replace) m u p c = absurd (m start size flags backend replace refl)
+no_change t (request.Unmap start size) m u p c = absurd (u start size refl)
+no_change t (request.Protect start size set clear) m u p c = absurd (p start size set clear refl)
+no_change t (request.Find address) m u p c = refl
+no_change t (request.Overlaps start size) m u p c = refl
+no_change t (request.Search hint size limit align) m u p c = refl
+no_change t request.Clear m u p c = absurd (c refl)
+no_change t request.Bad m u p c = refl
 
 -- ---- the line where the change is accepted
 
--- map, unmap, protect and clear, by their places in `Request`
-abbrev is_change : List ℕ
-is_change = 0 ∷ 1 ∷ 2 ∷ 6 ∷ []
-
-pub change_ok : (t : Tables) (r : Request) → OneOf is_change (tag_of the_type r) → line_bytes line.Ok ≡ asked_line t r
+-- map, unmap, protect and clear
+pub change_ok : (t : Tables) (r : Request) → ((address : ℕ) → r ≡ request.Find address → ⊥) → ((start size : ℕ) → r ≡ request.Overlaps start size → ⊥)
+    → ((hint size limit align : ℕ) → r ≡ request.Search hint size limit align → ⊥) → (r ≡ request.Bad → ⊥) → line_bytes line.Ok ≡ asked_line t r
 unfolding asked_line
-change_ok t (request.Map start size flags backend replace) k = refl
-change_ok t (request.Unmap start size) k = refl
-change_ok t (request.Protect start size set clear) k = refl
-change_ok t (request.Find address) k = absurd (miss is_change 3 tt k)
-change_ok t (request.Overlaps start size) k = absurd (miss is_change 4 tt k)
-change_ok t (request.Search hint size limit align) k = absurd (miss is_change 5 tt k)
-change_ok t request.Clear k = refl
-change_ok t request.Bad k = absurd (miss is_change 7 tt k)
+change_ok t (request.Map start size flags backend replace) f o s b = refl
+change_ok t (request.Unmap start size) f o s b = refl
+change_ok t (request.Protect start size set clear) f o s b = refl
+change_ok t (request.Find address) f o s b = absurd (f address refl)
+change_ok t (request.Overlaps start size) f o s b = absurd (o start size refl)
+change_ok t (request.Search hint size limit align) f o s b = absurd (s hint size limit align refl)
+change_ok t request.Clear f o s b = refl
+change_ok t request.Bad f o s b = absurd (b refl)
 
 -- ---- both together
 

@@ -27,4 +27,4 @@ unfolding asked_line
 returns-in-Bad c = sym (rw c.in-Bad.is)
 
 pub returns-in_default : goal.returns-in_default
-returns-in_default c = change_ok _ _ c.in_default.keys5
+returns-in_default c = change_ok _ _ c.in_default.not-Find c.in_default.not-Overlaps c.in_default.not-Search c.in_default.not-Bad

@@ -1,7 +1,7 @@
 -- `change` meets its contract. Assumes nothing.
 use mathlib.Core.Path.{sym, ◌∙◌}
 use Rattle.runs.specs.Step.{change_rule}
-use Rattle.runs.proofs.Steps.{no_change_lem}
+use Rattle.runs.proofs.Steps.{no_change}
 use Rattle.runs.proofs.change.Goals as goal
 
 pub returns-in-Map : goal.returns-in-Map
@@ -21,4 +21,4 @@ unfolding change_rule
 returns-in-Clear c = c.clear.ensures ∙ sym (rw c.in-Clear.is)
 
 pub returns-in_default : goal.returns-in_default
-returns-in_default c = no_change_lem _ _ c.in_default.keys5
+returns-in_default c = no_change _ _ c.in_default.not-Map c.in_default.not-Unmap c.in_default.not-Protect c.in_default.not-Clear
