@@ -32,20 +32,8 @@ loop-k-smaller c = omega arith
 pub loop-k-preserved : goal.loop-k-preserved
 loop-k-preserved c = (
       feeds_on c.loop-k.invariant.0 c.loop-k-test.true _ refl _ c.take_byte-taken.ensures.bytes_after c.take_byte-taken.ensures.put,
-      sized_on c.loop-k.invariant.1 c.loop-k-test.true _ _ c.take_byte-taken.auto.0 c.take_byte-taken.auto.1.0 c.take_byte-taken.auto.1.1.1.0 c.take_byte-taken.ensures.put c.take_byte-taken.ensures.filled_value,
+      sized_on c.loop-k.invariant.1 c.loop-k-test.true _ _ c.take_byte-taken.auto.areas c.take_byte-taken.auto.pages c.take_byte-taken.auto.bytes c.take_byte-taken.ensures.put c.take_byte-taken.ensures.filled_value,
     )
-
-pub shape_of-areas : goal.shape_of-areas
-shape_of-areas c = c.loop-k.invariant.1.areas_long
-
-pub shape_of-pages : goal.shape_of-pages
-shape_of-pages c = c.loop-k.invariant.1.pages_long
-
-pub shape_of-bytes : goal.shape_of-bytes
-shape_of-bytes c = c.loop-k.invariant.1.bytes_long
-
-pub shape_of-out : goal.shape_of-out
-shape_of-out c = c.loop-k.invariant.0.put.long
 
 pub returns : goal.returns
 returns c = let end = feeds_end c.loop-k.invariant.0 c.loop-k-test.false in
