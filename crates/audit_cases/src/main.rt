@@ -1,31 +1,41 @@
 // Audits many dumps: standard input has each as its length, four bytes with the lowest first, and then its bytes.
 #![tactic(auto)]
 
-use libc::STDIN_FILENO;
+use std::io;
+use std::io::Read;
+use stream::read_full;
+
+// The most bytes of a dump that is audited.
+const MOST: usize = 65536;
 
 // Reads a dump that fills the part, and says its verdict.
-fn audit_part(part: &mut [u8]) -> bool {
-    let n = io::read_full(STDIN_FILENO, part);
-    service::say(audits::audit(&part[..n]))
+fn audit_part<R: Read>(rt: &impl Print, reader: &mut R, part: &mut [u8]) -> io::Result<()> {
+    let n = read_full(reader, part)?;
+    service::say(rt, audits::audit(&part[..n]))
 }
 
 // Reads the next dump and says its verdict; false at the end of the input, or where a dump is longer than the buffer.
-fn audit_next() -> bool {
+fn audit_next<R: Read>(rt: &impl Print, reader: &mut R) -> io::Result<bool> {
     let mut size = [0u8; 4];
-    if io::read_full(STDIN_FILENO, &mut size) < 4 {
-        return false;
+    let n = read_full(reader, &mut size)?;
+    if n < 4 {
+        return Ok(false);
     }
     let length = little_endian::word32(&size, 0) as usize;
-    let mut bytes = io::large_buffer();
+    let mut bytes = [0u8; MOST];
     if bytes.len() < length {
-        return false;
+        return Ok(false);
     }
-    audit_part(&mut bytes[..length])
+    audit_part(rt, reader, &mut bytes[..length])?;
+    Ok(true)
 }
 
-fn main() {
-    let mut turns = u64::MAX;
-    while 0 < turns && audit_next() {
-        turns -= 1;
+fn main(rt: HostRuntime) -> io::Result<()> {
+    let mut reader = rt.reader();
+    for _ in 0..u64::MAX {
+        if !audit_next(&rt, &mut reader)? {
+            break;
+        }
     }
+    Ok(())
 }

@@ -1,6 +1,8 @@
 // The audit program on the longest dump with a byte more.
 #![tactic(auto)]
 
-fn main() {
-    service::audit_input();
+use std::io;
+
+fn main(rt: HostRuntime) -> io::Result<()> {
+    service::audit_input(&rt)
 }
