@@ -52,8 +52,8 @@ pub fn reflag_areas(
     set: u32,
     clear: u32,
 )
-    requires pages_value { good_tables areas.now count (length pages.old) ≡ true }
-    requires clear_le_max_flags { clear ≤ max_flags }
+    requires tables_good { good_tables areas.now count (length pages.old) ≡ true }
+    requires clear_legal { clear ≤ max_flags }
     ensures { pages.new ≡ protect_pages low high set clear (rows areas.now count) pages.old }
 {
     let mut slot = first_ending_past(areas, count, low);

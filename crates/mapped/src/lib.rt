@@ -1,5 +1,4 @@
-// The number of pages under areas, counted along a walk. `mapped_pages` has plain parameters: whoever calls it needs no proof by
-// hand, as the functions over a `Walk` do.
+// The number of pages under areas, counted along a walk.
 #![tactic(auto)]
 
 ghost use Rattle.std.specs.Prelude.{◌≡◌};

@@ -23,8 +23,8 @@ use slots::{Parts, splice};
 //        address
 // [ area    |    ]
 fn cut_slot(areas: &[u64], count: usize, address: u64, set: u32, clear: u32) -> usize
-    requires max_pages_value { good_tables areas.now count max_pages ≡ true }
-    requires clear_le_max_flags { clear ≤ max_flags }
+    requires tables_good { good_tables areas.now count max_pages ≡ true }
+    requires clear_legal { clear ≤ max_flags }
     ensures { result ≡ first_where (cuts_at set clear address) (rows areas.now count) }
 {
     let slot = first_ending_past(areas, count, address);
@@ -43,8 +43,8 @@ fn cut_slot(areas: &[u64], count: usize, address: u64, set: u32, clear: u32) -> 
 
 // How many areas more the list gets from a split at one end of the range.
 fn extra_at(areas: &[u64], count: usize, address: u64, set: u32, clear: u32) -> usize
-    requires max_pages_value { good_tables areas.now count max_pages ≡ true }
-    requires clear_le_max_flags { clear ≤ max_flags }
+    requires tables_good { good_tables areas.now count max_pages ≡ true }
+    requires clear_legal { clear ≤ max_flags }
     ensures { (length (split_at set clear address (rows areas.now count)) ≡ count + result) × (result ≤ 1) }
 {
     if cut_slot(areas, count, address, set, clear) < count {
@@ -56,9 +56,9 @@ fn extra_at(areas: &[u64], count: usize, address: u64, set: u32, clear: u32) -> 
 
 // How many areas more the list gets: one for each end of the range that splits an area.
 pub fn extra_areas(areas: &[u64], count: usize, low: u64, high: u64, set: u32, clear: u32) -> usize
-    requires max_pages_value { good_tables areas.now count max_pages ≡ true }
+    requires tables_good { good_tables areas.now count max_pages ≡ true }
     requires low_lt_high { low < high }
-    requires clear_le_max_flags { clear ≤ max_flags }
+    requires clear_legal { clear ≤ max_flags }
     ensures { (length (protect low high set clear (rows areas.now count)) ≡ count + result) × (result ≤ 2) }
 {
     let left = extra_at(areas, count, low, set, clear);
@@ -71,8 +71,8 @@ pub fn extra_areas(areas: &[u64], count: usize, low: u64, high: u64, set: u32, c
 //        address
 // [ left    | right ]
 fn split_at(areas: &mut [u64], count: usize, address: u64, set: u32, clear: u32) -> usize
-    requires max_pages_value { good_tables areas.old count max_pages ≡ true }
-    requires clear_le_max_flags { clear ≤ max_flags }
+    requires tables_good { good_tables areas.old count max_pages ≡ true }
+    requires clear_legal { clear ≤ max_flags }
     requires count_len_bound { length (split_at set clear address (rows areas.old count)) ≤ capacity_of (length areas.old) }
     ensures { (result ≡ length (split_at set clear address (rows areas.old count)))
         × (areas.new ≡ store (split_at set clear address (rows areas.old count)) areas.old count) }
@@ -118,9 +118,9 @@ fn flagged_area(area: Area, low: u64, high: u64, set: u32, clear: u32) -> Area
 
 // Gives the areas of the split list that lie in the range the new flags: each takes its own slot again, so no tail moves.
 fn flag_inside(areas: &mut [u64], count: usize, low: u64, high: u64, set: u32, clear: u32)
-    requires max_pages_value { good_tables areas.old count max_pages ≡ true }
-    requires set_le_max_flags { set ≤ max_flags }
-    requires clear_le_max_flags { clear ≤ max_flags }
+    requires tables_good { good_tables areas.old count max_pages ≡ true }
+    requires set_legal { set ≤ max_flags }
+    requires clear_legal { clear ≤ max_flags }
     ensures { areas.new
         ≡ store (map (flagged low high set clear) (rows areas.old count)) areas.old count }
 {
@@ -156,7 +156,7 @@ pub fn protect_list(
     set: u32,
     clear: u32,
 ) -> usize
-    requires max_pages_value { good_tables areas.old count max_pages ≡ true }
+    requires tables_good { good_tables areas.old count max_pages ≡ true }
     requires protect_range { ProtectRange low high set clear }
     requires count_len_bound { length (protect low high set clear (rows areas.old count)) ≤ capacity_of (length areas.old) }
     ensures { (result ≡ length (protect low high set clear (rows areas.old count)))

@@ -80,7 +80,7 @@ fn take_bytes(
     ensures bytes_after { session (tables areas.new pages.new result.count) (take result.filled bytes.new)
         ≡ (takes (session (tables areas.old pages.old count) (take filled bytes.old)) input.now).session }
     ensures put { Put out.old 0 (takes (session (tables areas.old pages.old count) (take filled bytes.old)) input.now).said out.new result.at }
-    ensures filled_lt_record_size_2 { result.filled < record_size }
+    ensures part_held { result.filled < record_size }
 {
     let mut taken = Taken {
         count,

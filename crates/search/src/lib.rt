@@ -28,7 +28,7 @@ pub fn power_of_two(n: u64) -> bool
 
 // The lowest multiple of align, a power of two, that is not below an address.
 fn align_up(address: u64, align: u64) -> u64
-    requires align_value { is_power_of_two align ≡ true }
+    requires align_power { is_power_of_two align ≡ true }
     requires align_bound { address + align < 2 ^ 64 }
     ensures { result ≡ up_to align address }
 {
@@ -50,7 +50,7 @@ pub fn lowest_free(
     high: u64,
     align: u64,
 ) -> Free
-    requires pages_value { good_tables areas.now count pages ≡ true }
+    requires tables_good { good_tables areas.now count pages ≡ true }
     requires legal_search { LegalSearch size align }
     ensures { free_outcome result ≡ free_rule (rows areas.now count) (asked hint size low high align (space_of pages)) }
 {

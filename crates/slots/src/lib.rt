@@ -90,7 +90,7 @@ fn move_up(areas: &mut [u64], from: usize, to: usize, words: usize)
 // Words move to any place; those that stay are not touched.
 fn move_words(areas: &mut [u64], from: usize, to: usize, words: usize)
     requires words_in_bounds { from + words ≤ length areas.old }
-    requires words_in_bounds_2 { to + words ≤ length areas.old }
+    requires to_in_bounds { to + words ≤ length areas.old }
     ensures { areas.new ≡ over areas.old to (take words (drop from areas.old)) }
 {
     if to < from {

@@ -1,5 +1,5 @@
 // Every area in order, read where the caller's area table lies. A `Walk` holds that slice and a slot; each function over the struct
-// has a proof by hand and is thin, since `len` tests the tables and `step_at`, on a plain slice and numbers, reads a slot.
+// is thin, since `len` tests the tables and `step_at`, on a plain slice and numbers, reads a slot.
 #![tactic(auto)]
 
 ghost use Rattle.std.specs.Prelude.{◌≡◌};

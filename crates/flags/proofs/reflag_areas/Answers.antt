@@ -12,10 +12,10 @@ use Rattle.effects.proofs.Sweeping.{sweep_begins, sweep_goes_on, sweep_ends, swe
 use Rattle.flags.proofs.reflag_areas.Goals as goal
 
 pub first_ending_past-slot-requires : goal.first_ending_past-slot-requires
-first_ending_past-slot-requires c = sorted (tables_are _ _ _ c.requires.pages_value)
+first_ending_past-slot-requires c = sorted (tables_are _ _ _ c.requires.tables_good)
 
 pub loop-slot-init : goal.loop-slot-init
-loop-slot-init c = (c.requires.pages_value, sweep_begins _ _ _ _ _ _ c.first_ending_past-slot.ensures)
+loop-slot-init c = (c.requires.tables_good, sweep_begins _ _ _ _ _ _ c.first_ending_past-slot.ensures)
 
 pub area_at-area-requires-clause-sorted_rows : goal.area_at-area-requires-clause-sorted_rows
 area_at-area-requires-clause-sorted_rows c = sorted (tables_are _ _ _ c.loop-slot.invariant.0)
@@ -32,7 +32,7 @@ returns-then-high-area c = sweep_stops (tables_are _ _ _ c.loop-slot.invariant.0
     (rw length_rows c.loop-slot-test.true) c.if-high-area.true
 
 pub reflag_area-requires : goal.reflag_area-requires
-reflag_area-requires c = c.requires.clear_le_max_flags
+reflag_area-requires c = c.requires.clear_legal
 
 pub overflow_add-slot : goal.overflow_add-slot
 overflow_add-slot c = omega arith

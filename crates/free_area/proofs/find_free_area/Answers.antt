@@ -9,7 +9,7 @@ returns-then-not-accepted c = placed_refused _ _ _ _ _ _ _ _ _ c.search_answer-a
     (eqb-false _ _ (sym c.accepted.ensures ∙ c.if-not-accepted.true))
 
 pub lowest_free-free-requires : goal.lowest_free-free-requires
-lowest_free-free-requires c = let asks = search_asks _ _ _ _ _ _ _ (sym c.search_answer-answer.ensures ∙ (eqb-true _ _ (sym c.accepted.ensures ∙ c.if-not-accepted.false))) in record { pages_value = asks.tables; legal_search = asks.legal }
+lowest_free-free-requires c = let asks = search_asks _ _ _ _ _ _ _ (sym c.search_answer-answer.ensures ∙ (eqb-true _ _ (sym c.accepted.ensures ∙ c.if-not-accepted.false))) in record { tables_good = asks.tables; legal_search = asks.legal }
 
 pub returns-in-At : goal.returns-in-At
 returns-in-At c = placed_at _ _ _ _ _ _ _ _ _ c.search_answer-answer.ensures ((eqb-true _ _ (sym c.accepted.ensures ∙ c.if-not-accepted.false))) _ c.lowest_free-free.ensures _ c.in-At.is

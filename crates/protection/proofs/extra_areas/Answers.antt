@@ -9,5 +9,5 @@ pub overflow_add-result : goal.overflow_add-result
 overflow_add-result c = omega arith
 
 pub returns : goal.returns
-returns c = let all = length_protect _ _ c.args.set c.args.clear c.requires.low_lt_high _ (tables_are _ _ _ c.requires.max_pages_value).ordered in
+returns c = let all = length_protect _ _ c.args.set c.args.clear c.requires.low_lt_high _ (tables_are _ _ _ c.requires.tables_good).ordered in
     (omega (arith, rw length_rows at all, c.extra_at-left.ensures.0, c.extra_at-right.ensures.0), omega arith)

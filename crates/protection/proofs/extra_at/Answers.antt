@@ -9,7 +9,7 @@ use Rattle.protection.proofs.extra_at.Goals as goal
 
 pub returns-then-cut_slot-count : goal.returns-then-cut_slot-count
 returns-then-cut_slot-count c = (
-  length_one _ _ _ _ (tables_are _ _ _ c.requires.max_pages_value).ordered _ c.cut_slot.ensures (rw length_rows c.if-cut_slot-count.true)
+  length_one _ _ _ _ (tables_are _ _ _ c.requires.tables_good).ordered _ c.cut_slot.ensures (rw length_rows c.if-cut_slot-count.true)
       ∙ rw length_rows,
   omega arith,
 )

@@ -8,10 +8,10 @@ use Rattle.protection.proofs.Flagging.{flagging_begins, flag_gap, flagging_goes_
 use Rattle.protection.proofs.flag_inside.Goals as goal
 
 pub first_ending_past-slot-requires : goal.first_ending_past-slot-requires
-first_ending_past-slot-requires c = sorted (tables_are _ _ _ c.requires.max_pages_value)
+first_ending_past-slot-requires c = sorted (tables_are _ _ _ c.requires.tables_good)
 
 pub loop-slot-init : goal.loop-slot-init
-loop-slot-init c = flagging_begins _ _ _ _ _ _ _ c.requires.max_pages_value c.first_ending_past-slot.ensures
+loop-slot-init c = flagging_begins _ _ _ _ _ _ _ c.requires.tables_good c.first_ending_past-slot.ensures
 
 pub area_at-area-requires-clause-sorted_rows : goal.area_at-area-requires-clause-sorted_rows
 area_at-area-requires-clause-sorted_rows c = sorted (tables_are _ _ _ c.loop-slot.invariant.good)
@@ -26,7 +26,7 @@ pub returns-then-high-area : goal.returns-then-high-area
 returns-then-high-area c = flagging_stops c.loop-slot.invariant _ c.area_at-area.ensures c.loop-slot-test.true c.if-high-area.true
 
 pub flagged_area-new-requires : goal.flagged_area-new-requires
-flagged_area-new-requires c = c.requires.clear_le_max_flags
+flagged_area-new-requires c = c.requires.clear_legal
 
 pub overflow_add-slot : goal.overflow_add-slot
 overflow_add-slot c = omega arith
@@ -44,7 +44,7 @@ pub loop-slot-smaller : goal.loop-slot-smaller
 loop-slot-smaller c = omega arith
 
 pub loop-slot-preserved : goal.loop-slot-preserved
-loop-slot-preserved c = flagging_goes_on c.loop-slot.invariant c.requires.set_le_max_flags c.loop-slot-test.true _ _
+loop-slot-preserved c = flagging_goes_on c.loop-slot.invariant c.requires.set_legal c.loop-slot-test.true _ _
     c.area_at-area.ensures
     c.flagged_area-new.ensures
     c.splice.ensures.1

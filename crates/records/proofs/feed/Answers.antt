@@ -21,6 +21,6 @@ take_bytes-taken-requires c =
 pub returns : goal.returns
 returns c = let fits = feed_accepted (length c.args.bytes.now) c.args.filled (length c.args.input.now) (length c.args.out.now) (sym c.feed_answer-answer.ensures ∙ (eqb-true _ _ (sym c.accepted.ensures ∙ c.if-not-accepted.false))) in
     let done = feed_done (tables c.args.areas.now c.args.pages.now c.args.count) c.args.bytes.now c.args.filled c.args.input.now c.args.out.now _ c.feed_answer-answer.ensures ((eqb-true _ _ (sym c.accepted.ensures ∙ c.if-not-accepted.false))) _ c.take_bytes-taken.result.filled
-    (length-take-le c.take_bytes-taken.result.filled c.take_bytes-taken.new.bytes (omega (arith, c.take_bytes-taken.ensures.filled_lt_record_size_2, c.take_bytes-taken.auto.bytes, fits.0)))
+    (length-take-le c.take_bytes-taken.result.filled c.take_bytes-taken.new.bytes (omega (arith, c.take_bytes-taken.ensures.part_held, c.take_bytes-taken.auto.bytes, fits.0)))
     _ _ c.take_bytes-taken.ensures.bytes_after c.take_bytes-taken.ensures.put in
     record { bytes_after = done.0; put = done.1.0; filled_value = done.1.1 }

@@ -37,4 +37,4 @@ loop-k-preserved c = (
 
 pub returns : goal.returns
 returns c = let end = feeds_end c.loop-k.invariant.0 c.loop-k-test.false in
-    record { bytes_after = end.0; put = end.1; filled_lt_record_size_2 = c.loop-k.invariant.1.part }
+    record { bytes_after = end.0; put = end.1; part_held = c.loop-k.invariant.1.part }

@@ -16,7 +16,7 @@ use Rattle.search.proofs.lowest_free.Goals as goal
 use Rattle.search.proofs.lowest_free.Goals.{then-high-space, else-high-space, then-hint-low, else-hint-low, then-at-area, else-at-area}
 
 pub overflow_mul-space : goal.overflow_mul-space
-overflow_mul-space c = let t = tables_are _ _ _ c.requires.pages_value in omega (arith, t.pages_few)
+overflow_mul-space c = let t = tables_are _ _ _ c.requires.tables_good in omega (arith, t.pages_few)
 
 pub returns-then-top-size : goal.returns-then-top-size
 returns-then-top-size c =
@@ -36,13 +36,13 @@ pub align_up-at-requires : goal.align_up-at-requires
 align_up-at-requires c =
     let t : c.if-high-space.top ≡ min c.args.high (space_of c.args.pages) =
         elim c.if-high-space.branch [ then-high-space w ↦ omega arith | else-high-space w ↦ omega arith ] in
-    let tables = tables_are _ _ _ c.requires.pages_value in
+    let tables = tables_are _ _ _ c.requires.tables_good in
     let setting : Setting (rows c.args.areas.now c.args.count) c.args.count (asked c.args.hint c.args.size c.args.low c.args.high c.args.align (space_of c.args.pages)) (c.if-high-space.top - c.args.size) =
         record { ordered = tables.ordered; counted = length_rows _ _; small = omega (arith, tables.pages_few); legal = c.requires.legal_search; room = omega arith } in
-    record { align_value = setting.legal.power; align_bound = omega (arith, setting.room, setting.small, align_fits setting.legal) }
+    record { align_power = setting.legal.power; align_bound = omega (arith, setting.room, setting.small, align_fits setting.legal) }
 
 pub first_ending_past-slot-requires : goal.first_ending_past-slot-requires
-first_ending_past-slot-requires c = sorted (tables_are _ _ _ c.requires.pages_value)
+first_ending_past-slot-requires c = sorted (tables_are _ _ _ c.requires.tables_good)
 
 pub loop-slot-init : goal.loop-slot-init
 loop-slot-init c =
@@ -50,11 +50,11 @@ loop-slot-init c =
         elim c.if-high-space.branch [ then-high-space w ↦ omega arith | else-high-space w ↦ omega arith ] in
     let s : c.if-hint-low.from ≡ max c.args.hint c.args.low =
         elim c.if-hint-low.branch [ then-hint-low w ↦ omega arith | else-hint-low w ↦ omega arith ] in
-    let tables = tables_are _ _ _ c.requires.pages_value in
+    let tables = tables_are _ _ _ c.requires.tables_good in
     let setting : Setting (rows c.args.areas.now c.args.count) c.args.count (asked c.args.hint c.args.size c.args.low c.args.high c.args.align (space_of c.args.pages)) (c.if-high-space.top - c.args.size) =
         record { ordered = tables.ordered; counted = length_rows _ _; small = omega (arith, tables.pages_few); legal = c.requires.legal_search; room = omega arith } in
     (
-      sorted (tables_are _ _ _ c.requires.pages_value),
+      sorted (tables_are _ _ _ c.requires.tables_good),
       pass_begins _ _ _ setting s c.align_up-at.ensures c.first_ending_past-slot.ensures,
     )
 
@@ -73,8 +73,8 @@ overflow_add-at c = omega (arith, c.loop-slot.invariant.1.setting.room, c.loop-s
 pub returns-then-at-size : goal.returns-then-at-size
 returns-then-at-size c = pass_found c.loop-slot.invariant.1 _ c.loop-slot-test.true c.area_at-area.ensures c.if-last-at.false c.if-at-size.true
 
-pub align_up-at-requires-then-at-area-clause-align_value : goal.align_up-at-requires-then-at-area-clause-align_value
-align_up-at-requires-then-at-area-clause-align_value c = c.loop-slot.invariant.1.setting.legal.power
+pub align_up-at-requires-then-at-area-clause-align_power : goal.align_up-at-requires-then-at-area-clause-align_power
+align_up-at-requires-then-at-area-clause-align_power c = c.loop-slot.invariant.1.setting.legal.power
 
 pub align_up-at-requires-then-at-area-clause-align_bound : goal.align_up-at-requires-then-at-area-clause-align_bound
 align_up-at-requires-then-at-area-clause-align_bound c = end_small c.loop-slot.invariant.1 _ c.loop-slot-test.true c.area_at-area.ensures
