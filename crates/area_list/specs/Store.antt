@@ -1,6 +1,6 @@
 -- How a new list of areas is written over the words (01: "Slots between a smaller new count and the old one become 0; slots at or
 -- past both counts keep their words"). Laws: `proofs/Stores.antt`. Assumes nothing.
-use Rattle.std.specs.Prelude.{ℕ, ◌+◌, ◌-◌, ◌*◌, max, ◌≡◌, true, List, [], ◌∷◌, ◌++◌, length, take, drop, replicate}
+use Rattle.std.specs.Prelude.{ℕ, ◌-◌, ◌*◌, max, ◌≡◌, true, List, [], ◌∷◌, ◌++◌, length, take, drop, replicate}
 use Rattle.area.specs.declared.Area.{Area}
 use Rattle.area_list.specs.Layout.{words_per_area, legal_word, word_of, words_of}
 

@@ -3,7 +3,7 @@ use Prim.Native.Nat.{ℕ, zero, suc, ◌+◌, ◌/◌, ◌%◌, ◌≤◌, ◌<�
 use mathlib.Core.Path.{◌≡◌, refl, sym, ap, ◌∙◌}
 use mathlib.Core.List.{List, [], ◌∷◌, ◌++◌, append_assoc}
 use native.Mathlib.Omega.{arith}
-use lib.ListN.{length, get_or, take, set, length-append, length-set}
+use lib.ListN.{length, get_or, take, set, length-append}
 use lib.Seq.{take_at, get_or_at, get_or-take, take-take, take_all}
 use Rattle.lists.specs.Over.{over}
 use Rattle.lists.proofs.Over.{over_right, over_nothing, over_one, length_over, Falls, fall_begins, fall_goes_on, fall_ends}

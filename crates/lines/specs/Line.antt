@@ -2,7 +2,7 @@
 -- partial last record. At the end each area: `area S E F`. S, E, A are 16 hex digits, F one, lower case; every line starts with
 -- its fixed word and ends with byte 10." Laws: `proofs/Lines.antt`. Assumes nothing.
 use Rattle.std.specs.Prelude.{ℕ, zero, suc, ◌+◌, ◌/◌, ◌%◌, ◌≤◌, ◌≡◌, cond, List, [], ◌∷◌, ◌++◌, ltb, length}
-use Prim.Native.Char.{Char, code}
+use Prim.Native.Char.{code}
 use Prim.Native.String.{String, [] as empty, ◌∷◌ as ◌then◌}
 use Rattle.lists.specs.Over.{over}
 use Rattle.area.specs.Answer.{number}

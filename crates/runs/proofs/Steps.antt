@@ -3,11 +3,9 @@
 use Prim.Native.Nat.{ℕ, zero, suc, ◌≤◌}
 use mathlib.Core.Path.{◌≡◌, refl, ap}
 use mathlib.Core.Bool.{cond}
-use mathlib.Core.List.{List, [], ◌∷◌}
+use mathlib.Core.List.{List}
 use native.Mathlib.Omega.{arith}
 use lib.ListN.{length}
-use types.Run.{OneOf, miss}
-use denote.Enum.Declared.{tag_of}
 use mathlib.Core.Bool.{Bool}
 use Rattle.page_table.specs.declared.Backend.{Backend}
 use Rattle.area.specs.Answer.{number, Reply, reply}
@@ -23,7 +21,6 @@ use Rattle.lines.specs.declared.Line.TheVariants as line
 use Rattle.requests.specs.Request.{request_of}
 use Rattle.requests.specs.declared.Request.{Request}
 use Rattle.requests.specs.declared.Request.TheVariants as request
-use Rattle.requests.specs.contracts.Request.{the_type}
 
 pub accepted_line : (n : ℕ) (line : List ℕ) → n ≡ 0 → line ≡ answer_line n line
 unfolding answer_line

@@ -1,6 +1,5 @@
 -- `first_mapped` meets its contract. The loop's invariant: no page so far has an entry, so those that are left decide.
 -- Assumes nothing.
-use Prim.Native.Nat.{◌-◌}
 use mathlib.Core.Path.{refl, sym, ◌∙◌}
 use native.Mathlib.Omega.{arith}
 use Rattle.agreement.specs.Agree.{differs, unmapped}

@@ -1,6 +1,5 @@
 -- `first_other` meets its contract. The loop's invariant: every page so far has the area's entry, so those that are left decide.
 -- Assumes nothing.
-use Prim.Native.Nat.{◌-◌}
 use mathlib.Core.Path.{refl, sym, ◌∙◌}
 use native.Mathlib.Omega.{arith}
 use Rattle.agreement.proofs.Lowest.{lowest_ends}

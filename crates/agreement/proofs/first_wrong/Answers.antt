@@ -1,6 +1,6 @@
 -- `first_wrong` meets its contract. The loop's invariant: the pages below page agree, and the areas from slot on decide.
 -- Assumes nothing.
-use Prim.Native.Nat.{ℕ, ◌-◌, ◌≤◌, ◌<◌}
+use Prim.Native.Nat.{ℕ, ◌≤◌, ◌<◌}
 use mathlib.Core.Path.{◌∙◌, sym}
 use mathlib.Core.List.{List}
 use native.Mathlib.Omega.{arith}

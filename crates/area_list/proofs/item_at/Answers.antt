@@ -2,7 +2,6 @@
 use native.Mathlib.Omega.{arith}
 use mathlib.Core.Path.{◌∙◌, sym, ap}
 use mathlib.Core.Bool.{true≢false}
-use borrow.Author.Tests.{not-true, not-false}
 use Rattle.area_list.specs.declared.Item.TheVariants.{Some}
 use Rattle.area_list.proofs.Items.{item_none, past_count, illegal_none, legal_some, slot_fits}
 use Rattle.area_list.proofs.item_at.Goals as goal

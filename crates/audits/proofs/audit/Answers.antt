@@ -1,7 +1,6 @@
 -- `audit` meets its contract: a dump of the right size is read into scratch tables that are as long as it says. Assumes nothing.
 use native.Mathlib.Omega.{arith}
 use mathlib.Core.Path.{◌∙◌, sym}
-use mathlib.Core.Bool.{true}
 use Rattle.dumps.specs.Dump.{count_in, pages_in}
 use Rattle.audits.proofs.Audits.{table_verdict, header_there, words_few, entries_few, area_words_long, entries_long, lent}
 use Rattle.audits.proofs.audit.Goals as goal

@@ -1,5 +1,4 @@
 -- `read_entries` meets its contract. The loop's invariant: the first k entries were read. Assumes nothing.
-use Prim.Native.Nat.{◌-◌}
 use native.Mathlib.Omega.{arith}
 use Rattle.audits.proofs.Reading.{read_begins, read_on, read_ends}
 use Rattle.audits.proofs.read_entries.Goals as goal

@@ -1,6 +1,5 @@
 -- `cut_answer` meets its contract: each answer is its test's, with all tests before it passed. Assumes nothing.
 use mathlib.Core.Path.{◌∙◌, sym}
-use mathlib.Core.Bool.{true}
 use native.Mathlib.Omega.{arith}
 use Rattle.cuts.proofs.Cuts.{cut_bad, cut_unaligned, cut_low, cut_high, cut_inside}
 use Rattle.cuts.proofs.cut_answer.Goals as goal

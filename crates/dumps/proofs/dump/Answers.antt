@@ -1,6 +1,5 @@
 -- `dump` meets its contract: each refusal by its test, and past them the whole dump is written. Assumes nothing.
 use mathlib.Core.Path.{◌∙◌, sym}
-use mathlib.Core.Bool.{true}
 use Rattle.area_list.proofs.Goodness.{tables_are, count_fits}
 use Rattle.rules.specs.Change.{tables}
 use Rattle.dumps.proofs.Writing.{dump_bad, dump_areas, dump_pages, dump_short, dump_done}

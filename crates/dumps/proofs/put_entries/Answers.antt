@@ -1,6 +1,5 @@
 -- `put_entries` meets its contract. The loop's invariant: the first k entries are written, and next is the place after them.
 -- Assumes nothing.
-use Prim.Native.Nat.{◌-◌}
 use mathlib.Core.Path.{refl}
 use native.Mathlib.Omega.{arith}
 use Rattle.dumps.proofs.Writing.{lists_begins, lists_on, lists_ends}

@@ -1,6 +1,5 @@
 -- `put_number` meets its contract. The loop's invariant: k bytes are written, and rest has those that are left.
 -- Assumes nothing.
-use Prim.Native.Nat.{◌-◌}
 use mathlib.Core.Path.{refl}
 use native.Mathlib.Omega.{arith}
 use Rattle.dumps.proofs.Writing.{spells_begins, spells_on, spells_ends}

@@ -1,9 +1,7 @@
 -- `reflag_areas` meets its contract. The invariant: the tables are good, and what the whole list does to the pages at entry is what
 -- the slots that are left do to the pages now. Assumes nothing.
 use native.Mathlib.Omega.{arith}
-use Prim.Native.Nat.{◌-◌}
 use mathlib.Core.Path.{refl}
-use mathlib.Core.Bool.{true}
 use Rattle.area_list.proofs.Rows.{length_rows}
 use Rattle.area_list.proofs.Goodness.{tables_are}
 use Rattle.area_list.proofs.Positions.{sorted}
@@ -42,11 +40,11 @@ loop-slot-smaller c = omega arith
 
 pub loop-slot-preserved : goal.loop-slot-preserved
 loop-slot-preserved c = (
-      c.loop-slot.invariant.0,
-      rw c.reflag_area.ensures
-          (sweep_goes_on (tables_are _ _ _ c.loop-slot.invariant.0).ordered c.loop-slot.invariant.1 _ _ _
-          c.area_at-area.ensures (rw length_rows c.loop-slot-test.true) refl refl),
-    )
+  c.loop-slot.invariant.0,
+  rw c.reflag_area.ensures
+      (sweep_goes_on (tables_are _ _ _ c.loop-slot.invariant.0).ordered c.loop-slot.invariant.1 _ _ _
+      c.area_at-area.ensures (rw length_rows c.loop-slot-test.true) refl refl),
+)
 
 pub shape_of-pages : goal.shape_of-pages
 shape_of-pages c = c.loop-slot.invariant.1.long

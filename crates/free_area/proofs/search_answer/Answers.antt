@@ -1,7 +1,6 @@
 -- `search_answer` meets its contract: each answer is its test's, with all tests before it passed. Assumes nothing.
 use native.Mathlib.Omega.{arith}
 use mathlib.Core.Path.{◌∙◌, sym}
-use mathlib.Core.Bool.{true}
 use Rattle.questions.proofs.Questions.{search_bad, align_no_power, align_small, size_zero, limit_turned, size_uneven, search_passes}
 use Rattle.free_area.proofs.search_answer.Goals as goal
 

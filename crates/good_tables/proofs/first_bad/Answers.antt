@@ -1,7 +1,6 @@
 -- `first_bad` meets its contract. The loop's invariant: the slots so far are good, and the first that breaks the rule is that of
 -- the rows that are left, after an area that ended at before. Assumes nothing.
 use native.Mathlib.Omega.{arith}
-use Prim.Native.Nat.{◌-◌}
 use mathlib.Core.Path.{◌∙◌, sym}
 use Rattle.area_list.proofs.Goodness.{first_begins, first_ends, bad_row, good_row_lem, count_fits}
 use Rattle.good_tables.proofs.first_bad.Goals as goal
@@ -26,12 +25,12 @@ loop-slot-smaller c = omega arith
 
 pub loop-slot-preserved : goal.loop-slot-preserved
 loop-slot-preserved c = (
-      c.loop-slot.invariant.0,
-      (
-        omega arith,
-        c.loop-slot.invariant.1.1 ∙ good_row_lem _ _ _ _ _ _ c.loop-slot-test.true c.row_at-row.ensures (sym c.good_after.ensures ∙ c.if-not-good_after.false),
-      ),
-    )
+  c.loop-slot.invariant.0,
+  (
+    omega arith,
+    c.loop-slot.invariant.1.1 ∙ good_row_lem _ _ _ _ _ _ c.loop-slot-test.true c.row_at-row.ensures (sym c.good_after.ensures ∙ c.if-not-good_after.false),
+  ),
+)
 
 pub returns : goal.returns
 returns c = sym (c.loop-slot.invariant.1.1 ∙ first_ends _ _ _ _ _ c.loop-slot.invariant.1.0 c.loop-slot-test.false)

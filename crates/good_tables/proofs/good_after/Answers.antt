@@ -2,8 +2,6 @@
 -- decides. Assumes nothing.
 use native.Mathlib.Omega.{arith}
 use mathlib.Core.Path.{◌∙◌, sym}
-use mathlib.Core.Bool.{true}
-use Rattle.area_list.specs.Layout.{legal_word}
 use Rattle.area_list.proofs.Goodness.{not_row, illegal_row, area_decides}
 use Rattle.good_tables.proofs.good_after.Goals as goal
 

@@ -1,15 +1,9 @@
 -- `put_line` meets its contract. Assumes nothing.
-use Prim.Native.Nat.{ℕ}
-use mathlib.Core.Path.{◌≡◌, refl, ap}
-use mathlib.Core.List.{List, [], ◌∷◌}
+use mathlib.Core.Path.{◌≡◌, ap}
+use mathlib.Core.List.{[]}
 use native.Mathlib.Omega.{arith}
-use types.Run.{OneOf, miss}
-use denote.Enum.Declared.{tag_of}
 use Rattle.lines.proofs.Lines.{put_nothing, put_area, put_tail}
 use Rattle.lines.specs.Line.{tail_bytes}
-use Rattle.lines.specs.declared.Line.{Line}
-use Rattle.lines.specs.declared.Line.TheVariants.{Ok, No, In, At, Over, Free, Bad, Cut, Area}
-use Rattle.lines.specs.contracts.Line.{the_type}
 use mathlib.Core.Logic.{inl, inr}
 use mathlib.Core.Path.{◌≡◌}
 use Rattle.lines.proofs.put_line.Goals as goal
@@ -59,7 +53,7 @@ pub returns-in-Ok : goal.returns-in-Ok
 unfolding tail_bytes
 returns-in-Ok c =
     let no_tail : tail_bytes c.args.line ≡ [] = elim c.in-Ok.is [
-      inl e ↦ rw e
-    | inr r ↦ elim r [ inl e ↦ rw e.1 | inr s ↦ elim s [ inl e ↦ rw e | inr t ↦ elim t [ inl e ↦ rw e | inr u ↦ elim u [ inl e ↦ rw e | inr e ↦ rw e ] ] ] ]
+      | inl e ↦ rw e
+      | inr r ↦ elim r [ inl e ↦ rw e.1 | inr s ↦ elim s [ inl e ↦ rw e | inr t ↦ elim t [ inl e ↦ rw e | inr u ↦ elim u [ inl e ↦ rw e | inr e ↦ rw e ] ] ] ]
     ] in
     put_tail _ _ _ c.head.ensures.0 c.put-at.ensures.0 no_tail (put_nothing _ _ (omega arith))

@@ -1,6 +1,6 @@
 -- `frames_fit` meets its contract. The loop's invariant: the answer for the whole range is the answer for what is left of it.
 -- The measure is the number of pages left. Assumes nothing.
-use Rattle.std.proofs.Common.{◌-◌, sym, refl, ◌∙◌, arith}
+use Rattle.std.proofs.Common.{sym, refl, ◌∙◌, arith}
 use Rattle.page_table.proofs.Frames.{none_left, one_fits, one_fails}
 use Rattle.page_table.proofs.frames_fit.Goals as goal
 

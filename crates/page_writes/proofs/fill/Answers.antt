@@ -1,5 +1,4 @@
 -- `fill` meets its contract: the loop is a `Sweep` of one entry. Assumes nothing.
-use Prim.Native.Nat.{◌-◌}
 use mathlib.Core.Path.{refl}
 use native.Mathlib.Omega.{arith}
 use Rattle.lists.proofs.Sweep.{begins, goes_on, ends}

@@ -1,5 +1,4 @@
 -- `fill_linear` meets its contract: the loop is a `Sweep` of each page's own entry. Assumes nothing.
-use Prim.Native.Nat.{◌-◌}
 use mathlib.Core.Path.{◌∙◌}
 use native.Mathlib.Omega.{arith}
 use Rattle.page_table.specs.Entry.{entry_of}

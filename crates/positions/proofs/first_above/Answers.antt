@@ -1,7 +1,6 @@
 -- `first_above` meets its contract: binary search. The invariant: words before low are at most the value, and words from high on
 -- are above it. The measure is what lies between. Assumes nothing.
 use native.Mathlib.Omega.{arith}
-use Prim.Native.Nat.{◌-◌}
 use Rattle.area_list.proofs.Positions.{search_begins, go_up, go_down, search_ends}
 use Rattle.positions.proofs.first_above.Goals as goal
 

@@ -1,7 +1,6 @@
 -- `flag_inside` meets its contract. The invariant: the areas before the slot are as the whole list makes them, and those from the
 -- slot on are still to be flagged. Assumes nothing.
 use native.Mathlib.Omega.{arith}
-use Prim.Native.Nat.{◌-◌}
 use Rattle.area_list.proofs.Goodness.{tables_are}
 use Rattle.area_list.proofs.Positions.{sorted}
 use Rattle.protection.proofs.Flagging.{flagging_begins, flag_gap, flagging_goes_on, flagging_ends, flagging_stops}

@@ -1,6 +1,5 @@
 -- `find` meets its contract. Assumes nothing.
 use mathlib.Core.Path.{◌∙◌, sym}
-use mathlib.Core.Bool.{true}
 use Rattle.area_list.proofs.Goodness.{tables_are}
 use Rattle.area_list.proofs.Positions.{sorted}
 use Rattle.questions.proofs.Questions.{found_bad, found_none, found_at}

@@ -1,7 +1,6 @@
 -- `range_answer` meets its contract: each answer is its test's, with all tests before it passed. Assumes nothing.
 use native.Mathlib.Omega.{arith}
 use mathlib.Core.Path.{◌∙◌, sym}
-use mathlib.Core.Bool.{true}
 use Rattle.area_list.proofs.Goodness.{tables_are}
 use Rattle.questions.proofs.Answering.{range_bad, start_unaligned, size_unaligned, range_past, range_inside}
 use Rattle.questions.proofs.range_answer.Goals as goal

@@ -1,5 +1,4 @@
 -- `finish` meets its contract. Assumes nothing.
-use mathlib.Core.Bool.{true}
 use mathlib.Core.Path.{sym, ◌∙◌}
 use native.Mathlib.Omega.{arith}
 use Rattle.area_list.specs.Layout.{capacity_of}

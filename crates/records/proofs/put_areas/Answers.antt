@@ -1,5 +1,4 @@
 -- `put_areas` meets its contract. Assumes nothing.
-use Prim.Native.Nat.{◌-◌}
 use native.Mathlib.Omega.{arith}
 use Rattle.area_list.proofs.Rows.{length_rows}
 use Rattle.records.proofs.Finishing.{lists_begin, lists_on, lists_end}

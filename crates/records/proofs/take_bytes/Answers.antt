@@ -1,5 +1,4 @@
 -- `take_bytes` meets its contract. Assumes nothing.
-use Prim.Native.Nat.{◌-◌}
 use mathlib.Core.Path.{refl}
 use native.Mathlib.Omega.{arith}
 use Rattle.records.proofs.Feeding.{feeds_begin, feeds_on, feeds_end, sized_begin, sized_on}
@@ -31,9 +30,9 @@ loop-k-smaller c = omega arith
 
 pub loop-k-preserved : goal.loop-k-preserved
 loop-k-preserved c = (
-      feeds_on c.loop-k.invariant.0 c.loop-k-test.true _ refl _ c.take_byte-taken.ensures.bytes_after c.take_byte-taken.ensures.put,
-      sized_on c.loop-k.invariant.1 c.loop-k-test.true _ _ c.take_byte-taken.auto.areas c.take_byte-taken.auto.pages c.take_byte-taken.auto.bytes c.take_byte-taken.ensures.put c.take_byte-taken.ensures.filled_value,
-    )
+  feeds_on c.loop-k.invariant.0 c.loop-k-test.true _ refl _ c.take_byte-taken.ensures.bytes_after c.take_byte-taken.ensures.put,
+  sized_on c.loop-k.invariant.1 c.loop-k-test.true _ _ c.take_byte-taken.auto.areas c.take_byte-taken.auto.pages c.take_byte-taken.auto.bytes c.take_byte-taken.ensures.put c.take_byte-taken.ensures.filled_value,
+)
 
 pub returns : goal.returns
 returns c = let end = feeds_end c.loop-k.invariant.0 c.loop-k-test.false in

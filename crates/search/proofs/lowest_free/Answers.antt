@@ -3,7 +3,6 @@
 use native.Mathlib.Omega.{arith}
 use Prim.Native.Nat.{◌-◌, min, max}
 use mathlib.Core.Path.{◌≡◌, ◌∙◌, sym}
-use mathlib.Core.Logic.{⊎_elim}
 use Rattle.area_list.specs.Layout.{rows}
 use Rattle.area_list.specs.Good.{space_of}
 use Rattle.area_list.proofs.Goodness.{tables_are}
@@ -21,24 +20,24 @@ overflow_mul-space c = let t = tables_are _ _ _ c.requires.tables_good in omega 
 pub returns-then-top-size : goal.returns-then-top-size
 returns-then-top-size c =
     let t : c.if-high-space.top ≡ min c.args.high (space_of c.args.pages) =
-        elim c.if-high-space.branch [ then-high-space w ↦ omega arith | else-high-space w ↦ omega arith ] in
+    elim c.if-high-space.branch [ then-high-space w ↦ omega arith | else-high-space w ↦ omega arith ] in
     sym (none_is _ _ (λ b f. omega arith))
 
 pub returns-then-last-from : goal.returns-then-last-from
 returns-then-last-from c =
     let t : c.if-high-space.top ≡ min c.args.high (space_of c.args.pages) =
-        elim c.if-high-space.branch [ then-high-space w ↦ omega arith | else-high-space w ↦ omega arith ] in
+    elim c.if-high-space.branch [ then-high-space w ↦ omega arith | else-high-space w ↦ omega arith ] in
     let s : c.if-hint-low.from ≡ max c.args.hint c.args.low =
-        elim c.if-hint-low.branch [ then-hint-low w ↦ omega arith | else-hint-low w ↦ omega arith ] in
+    elim c.if-hint-low.branch [ then-hint-low w ↦ omega arith | else-hint-low w ↦ omega arith ] in
     sym (none_is _ _ (λ b f. omega arith))
 
 pub align_up-at-requires : goal.align_up-at-requires
 align_up-at-requires c =
     let t : c.if-high-space.top ≡ min c.args.high (space_of c.args.pages) =
-        elim c.if-high-space.branch [ then-high-space w ↦ omega arith | else-high-space w ↦ omega arith ] in
+    elim c.if-high-space.branch [ then-high-space w ↦ omega arith | else-high-space w ↦ omega arith ] in
     let tables = tables_are _ _ _ c.requires.tables_good in
     let setting : Setting (rows c.args.areas.now c.args.count) c.args.count (asked c.args.hint c.args.size c.args.low c.args.high c.args.align (space_of c.args.pages)) (c.if-high-space.top - c.args.size) =
-        record { ordered = tables.ordered; counted = length_rows _ _; small = omega (arith, tables.pages_few); legal = c.requires.legal_search; room = omega arith } in
+    record { ordered = tables.ordered; counted = length_rows _ _; small = omega (arith, tables.pages_few); legal = c.requires.legal_search; room = omega arith } in
     record { align_power = setting.legal.power; align_bound = omega (arith, setting.room, setting.small, align_fits setting.legal) }
 
 pub first_ending_past-slot-requires : goal.first_ending_past-slot-requires
@@ -47,13 +46,12 @@ first_ending_past-slot-requires c = sorted (tables_are _ _ _ c.requires.tables_g
 pub loop-slot-init : goal.loop-slot-init
 loop-slot-init c =
     let t : c.if-high-space.top ≡ min c.args.high (space_of c.args.pages) =
-        elim c.if-high-space.branch [ then-high-space w ↦ omega arith | else-high-space w ↦ omega arith ] in
+    elim c.if-high-space.branch [ then-high-space w ↦ omega arith | else-high-space w ↦ omega arith ] in
     let s : c.if-hint-low.from ≡ max c.args.hint c.args.low =
-        elim c.if-hint-low.branch [ then-hint-low w ↦ omega arith | else-hint-low w ↦ omega arith ] in
+    elim c.if-hint-low.branch [ then-hint-low w ↦ omega arith | else-hint-low w ↦ omega arith ] in
     let tables = tables_are _ _ _ c.requires.tables_good in
     let setting : Setting (rows c.args.areas.now c.args.count) c.args.count (asked c.args.hint c.args.size c.args.low c.args.high c.args.align (space_of c.args.pages)) (c.if-high-space.top - c.args.size) =
-        record { ordered = tables.ordered; counted = length_rows _ _; small = omega (arith, tables.pages_few); legal = c.requires.legal_search; room = omega arith } in
-    (
+    record { ordered = tables.ordered; counted = length_rows _ _; small = omega (arith, tables.pages_few); legal = c.requires.legal_search; room = omega arith } in (
       sorted (tables_are _ _ _ c.requires.tables_good),
       pass_begins _ _ _ setting s c.align_up-at.ensures c.first_ending_past-slot.ensures,
     )
@@ -87,12 +85,12 @@ loop-slot-smaller c = omega arith
 
 pub loop-slot-preserved : goal.loop-slot-preserved
 loop-slot-preserved c = (
-      c.loop-slot.invariant.0,
-      elim c.if-at-area.branch [
-        then-at-area w ↦ pass_moves c.loop-slot.invariant.1 _ c.loop-slot-test.true c.area_at-area.ensures _ c.if-at-size.false w.if-at-area.true (w.at-is ∙ w.align_up-at-then-at-area.ensures)
-      | else-at-area w ↦ pass_skips c.loop-slot.invariant.1 _ c.loop-slot-test.true c.area_at-area.ensures _ w.if-at-area.false w.at-is
-      ],
-    )
+  c.loop-slot.invariant.0,
+  elim c.if-at-area.branch [
+    | then-at-area w ↦ pass_moves c.loop-slot.invariant.1 _ c.loop-slot-test.true c.area_at-area.ensures _ c.if-at-size.false w.if-at-area.true (w.at-is ∙ w.align_up-at-then-at-area.ensures)
+    | else-at-area w ↦ pass_skips c.loop-slot.invariant.1 _ c.loop-slot-test.true c.area_at-area.ensures _ w.if-at-area.false w.at-is
+  ],
+)
 
 pub returns-then-last-at-2 : goal.returns-then-last-at-2
 returns-then-last-at-2 c = pass_none c.loop-slot.invariant.1 c.if-last-at-2.true

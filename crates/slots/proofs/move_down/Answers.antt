@@ -1,5 +1,4 @@
 -- `move_down` meets its contract: the loop lays the words down from the front. Assumes nothing.
-use Prim.Native.Nat.{◌-◌}
 use mathlib.Core.Path.{refl}
 use native.Mathlib.Omega.{arith}
 use Rattle.lists.proofs.Over.{rise_begins, moves_down, down_ends}

@@ -32,9 +32,9 @@ loop-k-smaller c = omega arith
 
 pub loop-k-preserved : goal.loop-k-preserved
 loop-k-preserved c = (
-      omega arith,
-      moves_up c.args.areas.now c.args.from c.args.words (omega arith) c.loop-k.invariant.1 c.requires.from_le_to c.requires.words_in_bounds c.loop-k.invariant.0 _ (omega arith),
-    )
+  omega arith,
+  moves_up c.args.areas.now c.args.from c.args.words (omega arith) c.loop-k.invariant.1 c.requires.from_le_to c.requires.words_in_bounds c.loop-k.invariant.0 _ (omega arith),
+)
 
 pub shape_of-areas : goal.shape_of-areas
 shape_of-areas c = c.loop-k.invariant.1.long

@@ -23,9 +23,9 @@ zero-requires c = omega arith
 pub returns : goal.returns
 unfolding capacity_of
 returns c = let fits : 4 * (c.args.low + c.args.parts.number + (c.args.count - c.args.high)) ≤ length c.args.areas.now = omega (arith, c.requires.gap) in (
-      refl,
-      splice_writes c.requires.sorted_rows c.args.low c.args.high (parts_of c.args.parts) c.requires.gap.ordered c.requires.gap.inside
-          (c.args.low + c.args.parts.number) (c.args.low + c.args.parts.number + (c.args.count - c.args.high))
-          (omega (arith, length_parts c.args.parts c.requires.gap.few)) refl fits
-          c.move_words.ensures c.put_parts.ensures c.zero.ensures,
-    )
+  refl,
+  splice_writes c.requires.sorted_rows c.args.low c.args.high (parts_of c.args.parts) c.requires.gap.ordered c.requires.gap.inside
+      (c.args.low + c.args.parts.number) (c.args.low + c.args.parts.number + (c.args.count - c.args.high))
+      (omega (arith, length_parts c.args.parts c.requires.gap.few)) refl fits
+      c.move_words.ensures c.put_parts.ensures c.zero.ensures,
+)

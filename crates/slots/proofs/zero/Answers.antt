@@ -1,5 +1,4 @@
 -- `zero` meets its contract: the loop lays zeros down from the front. Assumes nothing.
-use Prim.Native.Nat.{◌-◌}
 use native.Mathlib.Omega.{arith}
 use Rattle.lists.proofs.Over.{rise_begins, repeats, repeats_end}
 use Rattle.slots.proofs.zero.Goals as goal

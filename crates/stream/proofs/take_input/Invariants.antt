@@ -1,5 +1,5 @@
 -- `take_input` meets its contract: what is held of a record is no whole one. The measure is the number of blocks. Assumes nothing.
-use Rattle.std.proofs.Common.{◌≡◌, ◌<◌, length}
+use Rattle.std.proofs.Common.{◌<◌}
 use Rattle.requests.specs.Request.{record_size}
 use Rattle.stream.proofs.take_input.Given as goal
 

@@ -1,7 +1,6 @@
 -- `clear` meets its contract. Assumes nothing.
 use native.Mathlib.Omega.{arith}
 use mathlib.Core.Path.{◌∙◌, sym}
-use mathlib.Core.Bool.{true}
 use Rattle.area_list.proofs.Goodness.{tables_are}
 use Rattle.area_list.proofs.Positions.{sorted}
 use Rattle.rules.proofs.Changing.{none_laid, clear_refused, clear_done}

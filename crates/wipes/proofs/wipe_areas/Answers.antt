@@ -1,9 +1,8 @@
 -- `wipe_areas` meets its contract. The invariant: the tables are good, and what the whole list does to the pages at entry is what the
 -- slots that are left do to the pages now. Assumes nothing.
 use native.Mathlib.Omega.{arith}
-use Prim.Native.Nat.{ℕ, ◌-◌, ◌/◌}
+use Prim.Native.Nat.{ℕ, ◌/◌}
 use mathlib.Core.Path.{ap}
-use mathlib.Core.Bool.{true}
 use Rattle.page_table.specs.Limits.{page_size}
 use Rattle.area_list.proofs.Rows.{length_rows}
 use Rattle.area_list.proofs.Goodness.{tables_are}
@@ -39,13 +38,13 @@ loop-slot-smaller c = omega arith
 
 pub loop-slot-preserved : goal.loop-slot-preserved
 loop-slot-preserved c = (
-      c.loop-slot.invariant.0,
-      rw c.wipe.ensures
-          (sweep_goes_on (tables_are _ _ _ c.loop-slot.invariant.0).ordered c.loop-slot.invariant.1 c.area_at-area.result _ _ c.area_at-area.ensures
-          (rw length_rows c.loop-slot-test.true)
-          (ap (λ (n : ℕ). n / page_size) c.later.ensures)
-          (ap (λ (n : ℕ). n / page_size) c.earlier.ensures)),
-    )
+  c.loop-slot.invariant.0,
+  rw c.wipe.ensures
+      (sweep_goes_on (tables_are _ _ _ c.loop-slot.invariant.0).ordered c.loop-slot.invariant.1 c.area_at-area.result _ _ c.area_at-area.ensures
+      (rw length_rows c.loop-slot-test.true)
+      (ap (λ (n : ℕ). n / page_size) c.later.ensures)
+      (ap (λ (n : ℕ). n / page_size) c.earlier.ensures)),
+)
 
 pub shape_of-pages : goal.shape_of-pages
 shape_of-pages c = c.loop-slot.invariant.1.long

@@ -1,5 +1,5 @@
 -- `entry::packed` meets its contract: three fields that do not meet, laid over each other, add up. Assumes nothing.
-use Rattle.std.proofs.Common.{◌≡◌, ℕ, ◌+◌, ◌*◌, ◌/◌, ◌%◌, ◌^◌, ◌≤◌, Bool, true, false, cond, sym, refl, ◌∙◌, ap₂, ⊎_elim, arith}
+use Rattle.std.proofs.Common.{◌≡◌, ℕ, ◌+◌, ◌*◌, ◌/◌, ◌%◌, ◌^◌, ◌≤◌, Bool, true, false, cond, sym, refl, ◌∙◌, ap₂, arith}
 use lib.Bits.{bit_and, bit_or, and_mask}
 use Rattle.page_table.specs.Entry.{packed_of}
 use Rattle.page_table.proofs.Masks.{or_field}
@@ -13,7 +13,7 @@ unfolding packed_of
 packs flags frame kind lazy e =
     let shifted : (frame * 256) % 4294967296 ≡ frame % 2 ^ 24 * 2 ^ 8 = omega arith in
     let weight : cond lazy 3 1 * 2 ^ 4 ≡ 2 ^ 4 + cond lazy (2 ^ 5) 0 =
-        elim lazy as (λ (b : Bool). cond b 3 1 * 2 ^ 4 ≡ 2 ^ 4 + cond b (2 ^ 5) 0) [ true ↦ refl | false ↦ refl ] in
+    elim lazy as (λ (b : Bool). cond b 3 1 * 2 ^ 4 ≡ 2 ^ 4 + cond b (2 ^ 5) 0) [ true ↦ refl | false ↦ refl ] in
     let small : cond lazy (2 ^ 5) 0 ≤ 2 ^ 5 = elim lazy as (λ (b : Bool). cond b (2 ^ 5) 0 ≤ 2 ^ 5) [ true ↦ omega arith | false ↦ omega arith ] in
     let low : flags / 1 ≡ flags = omega arith in
     let high : frame / 1 ≡ frame = omega arith in
