@@ -1,6 +1,6 @@
 /* The memory set for C: the areas of a plug-in's space, and the page table that goes with them.
 
-   Link target/staticlib/libexports.a, which `rt staticlib exports` proves and writes. Rust has the same calls in memory_set.rs.
+   Link crates/exports/out/libexports.a, which `rt lib` in crates/exports proves and writes. Rust has the same calls in memory_set.rs.
 
    The tables. The caller lends both at every call; nothing is kept between calls, and nothing is allocated.
      areas   uint64_t words, four an area: start, end, flags, backend. There is room for areas_len / 4 areas, 256 at most.

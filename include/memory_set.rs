@@ -1,6 +1,6 @@
 //! The memory set for Rust: the areas of a plug-in's space, and the page table that goes with them.
 //!
-//! Link `target/staticlib/libexports.a`, which `rt staticlib exports` proves and writes. C has the same calls in
+//! Link `crates/exports/out/libexports.a`, which `rt lib` in crates/exports proves and writes. C has the same calls in
 //! `memory_set.h`, and that file says more of each. This one needs Rust 1.82 or newer.
 //!
 //! The caller lends both tables at every call. `areas` has four words an area (start, end, flags, backend) and room for

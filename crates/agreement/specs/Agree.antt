@@ -1,5 +1,5 @@
 -- When a page's entry agrees with the areas (02, W1): "each page's entry is what its area says, or 0 where no area lies". What an
--- area says is `areaEntry`, as in the set. Laws: `proofs/Agreeing.antt`. Assumes nothing.
+-- area says is `area_entry`, as in the set. Laws: `proofs/Agreeing.antt`. Assumes nothing.
 use Rattle.std.specs.Prelude.{ℕ, ◌-◌, ◌<◌, ◌≡◌, Bool, true, false, not, cond, List, [], ◌∷◌, eqb, length, get_or}
 use Rattle.lists.specs.Every.{lowest_of}
 use Rattle.area.specs.Area.{holds, area_entry, nothing}

@@ -1,6 +1,6 @@
 -- When tables are good (01, "The two tables"): "Tables are good when P ≤ 65,536, count ≤ capacity, each area has start < end within
 -- the space, both multiples of 4,096, flags at most 15, a legal backend word with every linear frame below 2^24, and starts no
--- earlier than the area before it ends." The parts on one area alone are `goodArea` of the crate area.
+-- earlier than the area before it ends." The parts on one area alone are `good_area` of the crate area.
 -- Laws: `proofs/Goodness.antt`. Assumes nothing.
 use Rattle.std.specs.Prelude.{ℕ, zero, suc, ◌*◌, Bool, true, ◌&&◌, cond, List, [], ◌∷◌, leb, length, drop}
 use Rattle.lists.specs.Every.{every}

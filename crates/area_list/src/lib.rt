@@ -61,6 +61,7 @@ pub fn row_at(areas: &[u64], slot: usize) -> Row
     }
 }
 
+#[tactic(auto, using(crate::proofs::Rows::lazy_legal, crate::proofs::Rows::small_illegal, crate::proofs::Rows::linear_legal))]
 pub fn legal_word(word: u64) -> bool
     ensures { result ≡ legal_word word }
 {

@@ -8,7 +8,7 @@ use stream::read_full;
 // The most bytes of a dump that is audited.
 const MOST: usize = 65536;
 
-// Reads a dump that fills the part, and says its verdict.
+// Reads a dump that fills the part, and says its verdict, or fails where the one or the other does.
 fn audit_part<R: Read>(rt: &impl Print, reader: &mut R, part: &mut [u8]) -> io::Result<()> {
     let n = read_full(reader, part)?;
     service::say(rt, audits::audit(&part[..n]))

@@ -1,6 +1,6 @@
 -- What an audit says of a dump (02, W1): "`table` for a count or P over its limit or a dump of another length; else `area N` for
 -- the first area, from 0, that breaks 01's rule; else `page N` for the lowest page that disagrees; else `good`."
--- 01's rule is that of the set, `goodRow`. Laws: `proofs/Audits.antt`. Assumes nothing.
+-- 01's rule is that of the set, `good_row`. Laws: `proofs/Audits.antt`. Assumes nothing.
 use Rattle.std.specs.Prelude.{ℕ, ◌*◌, ◌≤◌, ◌≡◌, Bool, true, cond, List, [], ◌∷◌, leb, ltb, eqb, length}
 use Rattle.lists.specs.Every.{every}
 use Rattle.area_list.specs.Layout.{words_per_area, rows}

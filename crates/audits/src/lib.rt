@@ -18,7 +18,7 @@ use little_endian::{word32, word64};
 const AREA_WORDS: usize = AREAS * WORDS;
 
 // What an audit finds.
-#[derive(Drop)]
+#[derive(Clone, Copy)]
 pub enum Verdict {
     // Count or P is over its limit, or the dump has another length.
     Table,

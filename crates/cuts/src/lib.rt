@@ -12,7 +12,7 @@ use page_table::{MAX_PAGES, PAGE};
 const LARGEST_SPACE: u64 = PAGE * (MAX_PAGES as u64);
 
 // The two parts of an area that was split, or a refusal: the area unchanged and an all-zero right part.
-#[derive(Drop)]
+#[derive(Clone, Copy)]
 pub struct Divided {
     pub answer: Answer,
     pub left: Area,
@@ -20,7 +20,7 @@ pub struct Divided {
 }
 
 // What is left of an area that was shrunk, or a refusal: the area unchanged.
-#[derive(Drop)]
+#[derive(Clone, Copy)]
 pub struct Shrunk {
     pub answer: Answer,
     pub area: Area,

@@ -1,4 +1,4 @@
--- Writing a dump of the set's own tables, so that they can be sent: all of `dumpOf` at the start of a buffer, or a refusal with 01's
+-- Writing a dump of the set's own tables, so that they can be sent: all of `dump_of` at the start of a buffer, or a refusal with 01's
 -- number and the buffer as it was. Laws: `proofs/Writing.antt`. Assumes nothing.
 use Rattle.std.specs.Prelude.{not, List, [], ◌∷◌, ℕ, ltb, length}
 use Rattle.lists.specs.Over.{over}

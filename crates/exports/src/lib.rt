@@ -2,7 +2,7 @@
 // 01's answer number and gives its other results through the `&mut` numbers, all of them 0 in a refusal.
 //
 // Each contract equates everything that a caller sees with the call's rule in the crates questions and rules, so no second outcome
-// meets it (`one-reply`, proofs/Numbers.antt).
+// meets it (`one_reply`, proofs/Numbers.antt).
 #![tactic(auto)]
 
 ghost use Rattle.std.specs.Prelude.{◌≡◌, [], ◌∷◌};

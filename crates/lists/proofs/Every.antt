@@ -1,5 +1,5 @@
--- Laws of `every` and `everyIn`: what a test over a list or a range says of each part, and the other way round; of `someOf`, that
--- it is true exactly when some number passes; and of `lowestOf`, that it passes where some number does and nothing below it does.
+-- Laws of `every` and `every_in`: what a test over a list or a range says of each part, and the other way round; of `some_of`, that
+-- it is true exactly when some number passes; and of `lowest_of`, that it passes where some number does and nothing below it does.
 -- Assumes nothing.
 use Prim.Native.Nat.{ℕ, zero, suc, ◌+◌, ◌-◌, ◌≤◌, ◌<◌}
 use mathlib.Core.Path.{◌≡◌, refl, sym, ap, ◌∙◌}

@@ -10,7 +10,7 @@ use page_table::PAGE;
 use walk::Walk;
 
 // A number of pages, 0 in a refusal.
-#[derive(Drop)]
+#[derive(Clone, Copy)]
 pub struct Mapped {
     pub answer: Answer,
     pub pages: usize,

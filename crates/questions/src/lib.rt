@@ -15,28 +15,28 @@ use page_table::PAGE;
 use positions::{any_overlap, first_holding};
 
 // A number, 0 in a refusal.
-#[derive(Drop)]
+#[derive(Clone, Copy)]
 pub struct Counted {
     pub answer: Answer,
     pub len: usize,
 }
 
 // A yes or no, no in a refusal.
-#[derive(Drop)]
+#[derive(Clone, Copy)]
 pub struct Told {
     pub answer: Answer,
     pub yes: bool,
 }
 
 // An area, all zero in a refusal.
-#[derive(Drop)]
+#[derive(Clone, Copy)]
 pub struct Found {
     pub answer: Answer,
     pub area: Area,
 }
 
 // An address, 0 in a refusal.
-#[derive(Drop)]
+#[derive(Clone, Copy)]
 pub struct Placed {
     pub answer: Answer,
     pub at: u64,

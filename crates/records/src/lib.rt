@@ -105,7 +105,7 @@ fn take_bytes(
 }
 
 // What a piece of input did: the count and the bytes of a record held afterwards, and how many bytes of the output were written.
-#[derive(Drop)]
+#[derive(Clone, Copy)]
 pub struct Fed {
     pub answer: Answer,
     pub count: usize,
@@ -193,7 +193,7 @@ fn put_areas(areas: &[u64], count: usize, out: &mut [u8], at: usize) -> usize
 }
 
 // How many bytes of the output were written at the end.
-#[derive(Drop)]
+#[derive(Clone, Copy)]
 pub struct Finished {
     pub answer: Answer,
     pub written: usize,

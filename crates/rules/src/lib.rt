@@ -5,7 +5,7 @@
 use area::Answer;
 
 // What a change answers, and the count afterwards: the old one in a refusal.
-#[derive(Drop)]
+#[derive(Clone, Copy)]
 pub struct Changed {
     pub answer: Answer,
     pub count: usize,

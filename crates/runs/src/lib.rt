@@ -13,7 +13,7 @@ use requests::{Request, decode};
 use rules::Changed;
 
 // What a request did: the count afterwards, and the line.
-#[derive(Drop)]
+#[derive(Clone, Copy)]
 pub struct Stepped {
     pub count: usize,
     pub line: Line,

@@ -11,7 +11,7 @@ use page_table::PAGE;
 use positions::first_ending_past;
 
 // Where an area of the size asked for has room.
-#[derive(Drop)]
+#[derive(Clone, Copy)]
 pub enum Free {
     At(u64),
     Nowhere,

@@ -13,7 +13,7 @@ const ENOUGH: usize = LONGEST + 1;
 // Bytes that hold the longest dump.
 const OUT: usize = 65536;
 
-// The line of a verdict.
+// The line of a verdict. Where it cannot be written a part of it may have been.
 pub fn say(rt: &impl Print, verdict: Verdict) -> io::Result<()> {
     match verdict {
         Verdict::Table => println!(rt; "table"),
@@ -23,7 +23,7 @@ pub fn say(rt: &impl Print, verdict: Verdict) -> io::Result<()> {
     }
 }
 
-// The audit program: a dump from standard input, one line to standard output.
+// The audit program: a dump from standard input, one line to standard output. Where the dump cannot be read there is no line.
 pub fn audit_input(rt: &(impl Input + Print)) -> io::Result<()> {
     let mut bytes = [0u8; ENOUGH];
     let mut reader = rt.reader();
@@ -31,7 +31,8 @@ pub fn audit_input(rt: &(impl Input + Print)) -> io::Result<()> {
     say(rt, audit(&bytes[..n]))
 }
 
-// The dump program: requests from standard input, and to standard output the dump of the tables that they leave.
+// The dump program: requests from standard input, and to standard output the dump of the tables that they leave. Where the requests
+// cannot be read nothing is written.
 pub fn dump_input(rt: &(impl Input + Print)) -> io::Result<()> {
     let mut areas = [0u64; AREA_WORDS];
     let mut pages = [0u32; PAGES];
@@ -39,7 +40,7 @@ pub fn dump_input(rt: &(impl Input + Print)) -> io::Result<()> {
     write_dump(rt, &areas, &pages, end.count)
 }
 
-// Writes the dump of tables that are not refused.
+// Writes the dump of tables that are not refused. Where that fails a part of it may have been written.
 fn write_dump(rt: &impl Print, areas: &[u64], pages: &[u32], count: usize) -> io::Result<()> {
     let mut out = [0u8; OUT];
     let answer = dump(areas, pages, count, &mut out);

@@ -28,7 +28,8 @@ pub struct Progress {
     pub more: bool,
 }
 
-// Reads a block and runs its records. Their lines are written if they are asked for.
+// Reads a block and runs its records. Their lines are written if they are asked for. Where the block cannot be read the tables stay
+// as they were; where its lines cannot be written its requests were run.
 fn take_block<R: Read>(
     rt: &impl Print,
     reader: &mut R,
@@ -66,7 +67,7 @@ fn take_block<R: Read>(
     })
 }
 
-// Writes the lines if they are asked for.
+// Writes the lines if they are asked for. Where that fails a part of them may have been written.
 fn tell(rt: &impl Print, lines: bool, out: &[u8]) -> io::Result<()> {
     if lines {
         return rt.write_all(out);
@@ -74,9 +75,9 @@ fn tell(rt: &impl Print, lines: bool, out: &[u8]) -> io::Result<()> {
     Ok(())
 }
 
-// Reads requests to the end of standard input, or fails where a block cannot be read or its lines cannot be written: the tables
-// then are what the requests before it left. A loop that is proved has to end, and nothing says that input does, so it counts
-// its blocks down from a number that no run uses up.
+// Reads requests to the end of standard input, or fails where a block cannot be read or its lines cannot be written. The tables then
+// are what the blocks before it left, and where only its lines failed its own requests too. A loop that is proved has to end, and
+// nothing says that input does, so it counts its blocks down from a number that no run uses up.
 pub fn take_input(
     rt: &(impl Input + Print),
     areas: &mut [u64],
@@ -109,7 +110,8 @@ pub fn take_input(
     Ok(at)
 }
 
-// Reads until the buffer is full or the input ends, and answers how many bytes that are.
+// Reads until the buffer is full or the input ends, and answers how many bytes that are. Where a read fails, what was read before it
+// stands at the front of the buffer, and nothing says how much that is.
 pub fn read_full<R: Read>(reader: &mut R, buf: &mut [u8]) -> io::Result<usize>
     ensures { IfOk result (λ n. n ≤ length buf.new) }
 {

@@ -12,7 +12,7 @@ use questions::len;
 
 // A walk: the caller's words as they lie, how many areas it goes through, the slot it is at, and what len answered. A refused
 // one goes through none.
-#[derive(Drop)]
+#[derive(Clone, Copy)]
 pub struct Walk<'a> {
     pub areas: &'a [u64],
     pub count: usize,

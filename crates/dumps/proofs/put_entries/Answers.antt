@@ -15,7 +15,7 @@ pub bounds-entries-k : goal.bounds-entries-k
 bounds-entries-k c = omega arith
 
 pub overflow_cast-entries : goal.overflow_cast-entries
-overflow_cast-entries c = omega (arith, c.shared_slice_known-in-loop-k-1.given c.loop-k.k)
+overflow_cast-entries c = omega (arith, c.type_inv.entries c.loop-k.k)
 
 pub put_number-next-requires : goal.put_number-next-requires
 put_number-next-requires c = omega (arith, c.loop-k.invariant.done.long, c.loop-k.invariant.at_next)

@@ -1,4 +1,4 @@
--- `Backend::fits` meets its contract: each arm is `backendFits` at that arm's constructor. Assumes nothing.
+-- `Backend::fits` meets its contract: each arm is `backend_fits` at that arm's constructor. Assumes nothing.
 use Rattle.std.proofs.Common.{sym, ◌∙◌}
 use Rattle.page_table.specs.Frames.{backend_fits}
 use Rattle.page_table.proofs.Backend.fits.Goals as goal

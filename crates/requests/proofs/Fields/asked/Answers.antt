@@ -1,4 +1,5 @@
 -- `Fields::asked` meets its contract. Assumes nothing.
+use native.Mathlib.Omega.{arith}
 use mathlib.Core.Path.{sym, ◌∙◌}
 use Rattle.requests.proofs.Requests.{one, both, handed, unless_blank, by_op, no_op}
 use Rattle.requests.specs.Request.{chosen}
@@ -37,4 +38,4 @@ unfolding chosen
 returns-in-8 c = c.unless-in-8.ensures ∙ unless_blank _ (both (both one one) c.beside_range-in-8.ensures) ∙ sym (by_op c.args.self 8 c.in-8.is)
 
 pub returns-in_default : goal.returns-in_default
-returns-in_default c = no_op c.args.self c.in_default.in_default-own.rest.0.0.0.0.0.0.0.1 c.in_default.in_default-own.rest.0.0.0.0.0.0.1 c.in_default.in_default-own.rest.0.0.0.0.0.1 c.in_default.in_default-own.rest.0.0.0.0.1 c.in_default.in_default-own.rest.0.0.0.1 c.in_default.in_default-own.rest.0.0.1 c.in_default.in_default-own.rest.0.1 c.in_default.in_default-own.rest.1
+returns-in_default c = no_op c.args.self (λ e. omega arith) (λ e. omega arith) (λ e. omega arith) (λ e. omega arith) (λ e. omega arith) (λ e. omega arith) (λ e. omega arith) (λ e. omega arith)
