@@ -3,10 +3,7 @@
 
 use std::io;
 use std::io::Read;
-use stream::read_full;
-
-// The most bytes of a dump that is audited.
-const MOST: usize = 65536;
+use stream::{OUT, read_full};
 
 // Reads a dump that fills the part, and says its verdict, or fails where the one or the other does.
 fn audit_part<R: Read>(rt: &impl Print, reader: &mut R, part: &mut [u8]) -> io::Result<()> {
@@ -14,7 +11,7 @@ fn audit_part<R: Read>(rt: &impl Print, reader: &mut R, part: &mut [u8]) -> io::
     service::say(rt, audits::audit(&part[..n]))
 }
 
-// Reads the next dump and says its verdict; false at the end of the input, or where a dump is longer than the buffer.
+// Reads the next dump and says its verdict; false at the end of the input, or where a dump is longer than a block.
 fn audit_next<R: Read>(rt: &impl Print, reader: &mut R) -> io::Result<bool> {
     let mut size = [0u8; 4];
     let n = read_full(reader, &mut size)?;
@@ -22,7 +19,7 @@ fn audit_next<R: Read>(rt: &impl Print, reader: &mut R) -> io::Result<bool> {
         return Ok(false);
     }
     let length = little_endian::word32(&size, 0) as usize;
-    let mut bytes = [0u8; MOST];
+    let mut bytes = [0u8; OUT];
     if bytes.len() < length {
         return Ok(false);
     }

@@ -6,12 +6,10 @@ use area_list::WORDS;
 use audits::{Verdict, audit};
 use dumps::{ENTRY, HEADER, LONGEST, WORD, dump};
 use std::io;
-use stream::{AREA_WORDS, PAGES, read_full, take_input};
+use stream::{AREA_WORDS, OUT, PAGES, read_full, take_input};
 
 // A byte more than the longest dump has shows that this one is longer, and the rest is not read.
 const ENOUGH: usize = LONGEST + 1;
-// Bytes that hold the longest dump.
-const OUT: usize = 65536;
 
 // The line of a verdict. Where it cannot be written a part of it may have been.
 pub fn say(rt: &impl Print, verdict: Verdict) -> io::Result<()> {

@@ -13,8 +13,8 @@ use std::io::Read;
 
 // Bytes read at once. The lines of so many fit an output block.
 const BLOCK: usize = 32768;
-// Bytes of an output block.
-const OUT: usize = 65536;
+// Bytes of an output block, which also holds the longest dump.
+pub const OUT: usize = 65536;
 // The tables of the record program: 256 areas and 4,096 pages.
 pub const AREA_WORDS: usize = 256 * WORDS;
 
