@@ -207,6 +207,13 @@ module _ (t : Tables) (bytes : List ℕ) (filled : ℕ) (input out : List ℕ) (
       rw e (reply_accepted (heard (session t (take filled bytes)) []) _ (takes (session t (take filled bytes)) input) (sym e ∙ z)) in
       (rw d (ap settled rule), (rw (← rule) p, rw (← rule, ← d) (sym l ∙ filled_held filled n s z)))
 
+-- ---- one piece of input after the other
+
+pub takes_append : (s : Session) (input more : List ℕ) → (takes s (input ++ more)).session ≡ (takes (takes s input).session more).session
+unfolding takes
+takes_append s [] more = refl
+takes_append s (byte ∷ input) more = takes_append (took s byte).session input more
+
 -- ---- what is held is part of a record
 
 took_holds : (s : Session) (byte : ℕ) → length (took s byte).session.held < record_size
@@ -241,3 +248,11 @@ pub fed_leaves : (t : Tables) (bytes : List ℕ) (filled : ℕ) (input : List �
     → length bytes ≡ record_size → filled < record_size → room_for (filled + length input) ≤ room → length s.held < record_size
 fed_leaves t bytes filled input room n s e long part fits =
     rw (ap (λ (r : Reply Session). r.value.held) e) (fed_holds t bytes filled input room long part fits)
+
+-- and its session is that of the bytes taken
+pub fed_takes : (t : Tables) (bytes : List ℕ) (filled : ℕ) (input : List ℕ) (room n : ℕ) (s : Session)
+    → reply n s ≡ settled (feed_rule t bytes filled input room)
+    → length bytes ≡ record_size → filled < record_size → room_for (filled + length input) ≤ room
+    → s ≡ (takes (session t (take filled bytes)) input).session
+fed_takes t bytes filled input room n s e long part fits =
+    ap (λ (r : Reply Session). r.value) (e ∙ ap settled (sym (fed t bytes filled input room long part fits)))

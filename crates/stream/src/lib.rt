@@ -1,9 +1,14 @@
-// Standard input to standard output, block by block in constant memory. No contract can say what is read or written, so what
-// matters is in the crate records; here is shown that no block is ever refused.
+// Standard input to standard output, block by block in constant memory. No contract can say what the input is or what was written, so
+// what matters is in the crate records; here is shown that no block is ever refused, and that the tables are at any time, also where
+// a read or a write fails, those that the records read so far leave.
 #![tactic(auto)]
 
-ghost use Rattle.std.specs.Prelude.{◌≡◌, ◌<◌, ◌≤◌, length, IfOk};
+ghost use Rattle.std.specs.Prelude.{ℕ, ◌≡◌, ◌<◌, ◌≤◌, false, [], length, take, IfOk, OnErr};
+ghost use Rattle.std.specs.Io.KnownBytes.{IsAtEnd};
 ghost use Rattle.requests.specs.Request.{record_size};
+ghost use Rattle.rules.specs.Change.{tables};
+ghost use Rattle.records.specs.Feed.{session};
+ghost use Rattle.stream.specs.Reading.{Runs, Comes, Fills};
 
 use area_list::WORDS;
 use records::{feed, finish};
@@ -28,8 +33,8 @@ pub struct Progress {
     pub more: bool,
 }
 
-// Reads a block and runs its records. Their lines are written if they are asked for. Where the block cannot be read the tables stay
-// as they were; where its lines cannot be written its requests were run.
+// Reads a block and runs its records. Their lines are written if they are asked for. It fails only where the block cannot be read,
+// and then nothing changes, or where its lines cannot be written, and then its records were run.
 fn take_block<R: Read>(
     rt: &impl Print,
     reader: &mut R,
@@ -42,7 +47,14 @@ fn take_block<R: Read>(
 ) -> io::Result<Progress>
     requires bytes_len { length bytes.old ≡ record_size }
     requires filled_lt_record_size { filled < record_size }
-    ensures { IfOk result (λ at. at.filled < record_size) }
+    ensures part_held { IfOk result (λ at. at.filled < record_size) }
+    ensures ok { IfOk result (λ at. Runs (R.remaining reader.old) (R.remaining reader.new)
+        (session (tables areas.old pages.old count) (take filled bytes.old))
+        (session (tables areas.new pages.new at.count) (take at.filled bytes.new))) }
+    ensures end { IfOk result (λ at. at.more ≡ false → IsAtEnd (R.remaining reader.new)) }
+    ensures err { OnErr result ((count' : ℕ) × (filled' : ℕ) × Runs (R.remaining reader.old) (R.remaining reader.new)
+        (session (tables areas.old pages.old count) (take filled bytes.old))
+        (session (tables areas.new pages.new count') (take filled' bytes.new))) }
 {
     let mut input = [0u8; BLOCK];
     let n = reader.read(&mut input)?;
@@ -76,7 +88,7 @@ fn tell(rt: &impl Print, lines: bool, out: &[u8]) -> io::Result<()> {
 }
 
 // Reads requests to the end of standard input, or fails where a block cannot be read or its lines cannot be written. The tables then
-// are what the blocks before it left, and where only its lines failed its own requests too. A loop that is proved has to end, and
+// are what the blocks before it left, and where only its lines failed its own records too. A loop that is proved has to end, and
 // nothing says that input does, so it counts its blocks down from a number that no run uses up.
 pub fn take_input(
     rt: &(impl Input + Print),
@@ -84,7 +96,9 @@ pub fn take_input(
     pages: &mut [u32],
     lines: bool,
 ) -> io::Result<Progress>
-    ensures { IfOk result (λ at. at.filled < record_size) }
+    ensures part_held { IfOk result (λ at. at.filled < record_size) }
+    ensures ok { IfOk result (λ at. Comes (session (tables areas.old pages.old 0) []) (tables areas.new pages.new at.count) at.filled) }
+    ensures err { OnErr result ((count : ℕ) × (filled : ℕ) × Comes (session (tables areas.old pages.old 0) []) (tables areas.new pages.new count) filled) }
 {
     let mut reader = rt.reader();
     let mut bytes = [0u8; RECORD];
@@ -110,10 +124,12 @@ pub fn take_input(
     Ok(at)
 }
 
-// Reads until the buffer is full or the input ends, and answers how many bytes that are. Where a read fails, what was read before it
-// stands at the front of the buffer, and nothing says how much that is.
+// Reads until the buffer is full or the input ends, and answers how many bytes that are. It fails only where a read does. What was
+// read before stands at the front of the buffer then, and nothing says how much that is.
 pub fn read_full<R: Read>(reader: &mut R, buf: &mut [u8]) -> io::Result<usize>
-    ensures { IfOk result (λ n. n ≤ length buf.new) }
+    ensures ok { IfOk result (λ n. Fills (R.remaining reader.old) (R.remaining reader.new) buf.new n) }
+    ensures end { IfOk result (λ n. n < length buf.new → IsAtEnd (R.remaining reader.new)) }
+    ensures err { OnErr result ((n : ℕ) × Fills (R.remaining reader.old) (R.remaining reader.new) buf.new n) }
 {
     let mut done = 0;
     while done < buf.len() {

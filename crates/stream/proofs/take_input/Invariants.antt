@@ -1,10 +1,17 @@
--- `take_input` meets its contract: what is held of a record is no whole one. The measure is the number of blocks. Assumes nothing.
-use Rattle.std.proofs.Common.{◌<◌}
+-- `take_input` meets its contract: what is held of a record is no whole one, and the blocks so far led to the tables. The measure is
+-- the number of blocks. Assumes nothing.
+use Rattle.std.proofs.Common.{◌≡◌, ◌<◌, [], length, take}
 use Rattle.requests.specs.Request.{record_size}
+use Rattle.rules.specs.Change.{tables}
+use Rattle.records.specs.Feed.{session}
+use Rattle.stream.specs.Reading.{Leads}
 use Rattle.stream.proofs.take_input.Given as goal
 
 abbrev pub invariant-loop-blocks : goal.invariant-loop-blocks
-invariant-loop-blocks g l = l.at.filled < record_size
+invariant-loop-blocks g l =
+    (l.at.filled < record_size)
+    × (length l.bytes ≡ record_size)
+    × Leads (session (tables l.initial.areas l.initial.pages 0) []) (session (tables l.areas l.pages l.at.count) (take l.at.filled l.bytes))
 
 abbrev pub decreases-loop-blocks : goal.decreases-loop-blocks
 decreases-loop-blocks g l = l.blocks
