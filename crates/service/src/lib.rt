@@ -21,7 +21,8 @@ pub fn say(rt: &impl Print, verdict: Verdict) -> io::Result<()> {
     }
 }
 
-// The audit program: a dump from standard input, one line to standard output. Where the dump cannot be read there is no line.
+// The audit program: a dump from standard input, one line to standard output. Where the dump cannot be read there is no line, and where
+// the line cannot be written a part of it may have been.
 pub fn audit_input(rt: &(impl Input + Print)) -> io::Result<()> {
     let mut bytes = [0u8; ENOUGH];
     let mut reader = rt.reader();
@@ -30,7 +31,7 @@ pub fn audit_input(rt: &(impl Input + Print)) -> io::Result<()> {
 }
 
 // The dump program: requests from standard input, and to standard output the dump of the tables that they leave. Where the requests
-// cannot be read nothing is written.
+// cannot be read nothing is written, and where the dump cannot be written a part of it may have been.
 pub fn dump_input(rt: &(impl Input + Print)) -> io::Result<()> {
     let mut areas = [0u64; AREA_WORDS];
     let mut pages = [0u32; PAGES];

@@ -1,5 +1,5 @@
 -- Laws of what reading leaves: nothing read yet, a read more, a failed read, one block after the other. Assumes nothing.
-use Rattle.std.proofs.Common.{◌≡◌, ℕ, ◌+◌, ◌<◌, ◌≤◌, List, [], ◌++◌, Option, Result, Ok, Err, OnErr, length, take, refl, sym, ap, ◌∙◌, subst, arith, length-take-le}
+use Rattle.std.proofs.Common.{◌≡◌, ℕ, ◌+◌, ◌<◌, ◌≤◌, List, [], ◌++◌, Option, None, Result, Ok, Err, OnErr, length, take, refl, sym, ap, ◌∙◌, subst, arith, length-take-le}
 use Rattle.std.proofs.lemmas.Slice.{take-put_mid}
 use Rattle.std.specs.Io.KnownBytes.{Consumes, Keeps}
 use Rattle.std.proofs.KnownBytes.{Consumes-nil, Consumes-trans, Consumes-kept}
@@ -7,9 +7,10 @@ use borrow.Rule.Slice.PartMut.{put_mid}
 use lib.ListN.{length-take}
 use lib.Seq.{take-take, take-append-add}
 use Rattle.requests.specs.Request.{record_size}
+use Rattle.rules.specs.Change.{Tables}
 use Rattle.records.specs.Feed.{Session, takes, room_for}
 use Rattle.records.proofs.Feeding.{takes_append}
-use Rattle.stream.specs.Reading.{Leads, Runs, Fills}
+use Rattle.stream.specs.Reading.{Runs, Comes, Fills}
 
 -- ---- a buffer
 
@@ -41,14 +42,18 @@ pub runs_nothing : (a b : Option (List ℕ)) (s : Session) (n : ℕ) (buf : List
 unfolding takes
 runs_nothing a b s n buf none read = ([], subst (λ m. Consumes a b (take m buf)) none read, refl)
 
-pub leads_none : (s : Session) → Leads s s
+pub runs_none : (a : Option (List ℕ)) (s : Session) → Runs a a s s
 unfolding takes
-leads_none s = ([], refl)
+runs_none a s = ([], Consumes-nil a, refl)
 
 -- a block more
-pub leads_on : (a b : Option (List ℕ)) (s s' s'' : Session) → Leads s s' → Runs a b s' s'' → Leads s s''
-leads_on a b s s' s'' f r =
-    (f.0 ++ r.0, r.2 ∙ ap (λ t. (takes t r.0).session) f.1 ∙ sym (takes_append s f.0 r.0))
+pub runs_on : (a b c : Option (List ℕ)) (s s' s'' : Session) → Runs a b s s' → Runs b c s' s'' → Runs a c s s''
+runs_on a b c s s' s'' f r =
+    (f.0 ++ r.0, Consumes-trans a b c f.0 r.0 f.1 r.1, r.2 ∙ ap (λ t. (takes t r.0).session) f.2 ∙ sym (takes_append s f.0 r.0))
+
+-- what is promised of a reader holds too where nobody knows what it had
+pub comes_unsaid : (a b : Option (List ℕ)) (s : Session) (t : Tables) (filled : ℕ) → Comes a b s t filled → Comes None None s t filled
+comes_unsaid a b s t filled p = (p.0, (p.1.0, tt, p.1.2), p.2)
 
 -- ---- an error
 

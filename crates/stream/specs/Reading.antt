@@ -5,17 +5,13 @@ use Rattle.std.specs.Io.KnownBytes.{Consumes}
 use Rattle.rules.specs.Change.{Tables}
 use Rattle.records.specs.Feed.{Session, session, takes}
 
--- some bytes of input lead from one session to the other
-abbrev pub Leads : Session → Session → Type 0
-Leads s s' = (input : List ℕ) × (s' ≡ (takes s input).session)
-
--- the bytes that the reader lost do
+-- the reader lost some bytes, and they lead from one session to the other
 abbrev pub Runs : Option (List ℕ) → Option (List ℕ) → Session → Session → Type 0
 Runs old new s s' = (input : List ℕ) × Consumes old new input × (s' ≡ (takes s input).session)
 
--- some bytes of input lead from a session to these tables, with so many bytes held
-abbrev pub Comes : Session → Tables → ℕ → Type 0
-Comes s t filled = (held : List ℕ) × Leads s (session t held) × (length held ≡ filled)
+-- they lead from a session to these tables, with so many bytes held
+abbrev pub Comes : Option (List ℕ) → Option (List ℕ) → Session → Tables → ℕ → Type 0
+Comes old new s t filled = (held : List ℕ) × Runs old new s (session t held) × (length held ≡ filled)
 
 -- the first n bytes of the buffer are those that the reader lost
 abbrev pub Fills : Option (List ℕ) → Option (List ℕ) → List ℕ → ℕ → Type 0

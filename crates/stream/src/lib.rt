@@ -1,9 +1,9 @@
 // Standard input to standard output, block by block in constant memory. No contract can say what the input is or what was written, so
-// what matters is in the crate records; here is shown that no block is ever refused, and that the tables are at any time, also where
-// a read or a write fails, those that the records read so far leave.
+// what matters is in the crate records; here is shown that no block is ever refused, and that what a reader gave is what was run, also
+// where a read or a write fails.
 #![tactic(auto)]
 
-ghost use Rattle.std.specs.Prelude.{ℕ, ◌≡◌, ◌<◌, ◌≤◌, false, [], length, take, IfOk, OnErr};
+ghost use Rattle.std.specs.Prelude.{ℕ, ◌≡◌, ◌<◌, ◌≤◌, false, [], None, length, take, IfOk, OnErr};
 ghost use Rattle.std.specs.Io.KnownBytes.{IsAtEnd};
 ghost use Rattle.requests.specs.Request.{record_size};
 ghost use Rattle.rules.specs.Change.{tables};
@@ -87,20 +87,23 @@ fn tell(rt: &impl Print, lines: bool, out: &[u8]) -> io::Result<()> {
     Ok(())
 }
 
-// Reads requests to the end of standard input, or fails where a block cannot be read or its lines cannot be written. The tables then
-// are what the blocks before it left, and where only its lines failed its own records too. A loop that is proved has to end, and
-// nothing says that input does, so it counts its blocks down from a number that no run uses up.
-pub fn take_input(
-    rt: &(impl Input + Print),
+// Runs the records of a reader to its end, or fails where a block cannot be read or its lines cannot be written. The tables then are
+// what the blocks before it left, and where only its lines failed its own records too. A loop that is proved has to end, and nothing
+// says that input does, so it counts its blocks down from a number that no run uses up.
+fn take_all<R: Read>(
+    rt: &impl Print,
+    reader: &mut R,
     areas: &mut [u64],
     pages: &mut [u32],
     lines: bool,
 ) -> io::Result<Progress>
     ensures part_held { IfOk result (λ at. at.filled < record_size) }
-    ensures ok { IfOk result (λ at. Comes (session (tables areas.old pages.old 0) []) (tables areas.new pages.new at.count) at.filled) }
-    ensures err { OnErr result ((count : ℕ) × (filled : ℕ) × Comes (session (tables areas.old pages.old 0) []) (tables areas.new pages.new count) filled) }
+    ensures ok { IfOk result (λ at. Comes (R.remaining reader.old) (R.remaining reader.new)
+        (session (tables areas.old pages.old 0) []) (tables areas.new pages.new at.count) at.filled) }
+    ensures end { IfOk result (λ at. at.more ≡ false → IsAtEnd (R.remaining reader.new)) }
+    ensures err { OnErr result ((count : ℕ) × (filled : ℕ) × Comes (R.remaining reader.old) (R.remaining reader.new)
+        (session (tables areas.old pages.old 0) []) (tables areas.new pages.new count) filled) }
 {
-    let mut reader = rt.reader();
     let mut bytes = [0u8; RECORD];
     let mut at = Progress {
         count: 0,
@@ -110,18 +113,28 @@ pub fn take_input(
     let mut blocks = u64::MAX;
     while 0 < blocks && at.more {
         at = take_block(
-            rt,
-            &mut reader,
-            areas,
-            pages,
-            &mut bytes,
-            at.count,
-            at.filled,
-            lines,
+            rt, reader, areas, pages, &mut bytes, at.count, at.filled, lines,
         )?;
         blocks -= 1;
     }
     Ok(at)
+}
+
+// Runs the records of standard input, as `take_all` does. Standard input does not say which bytes it has left, so no more is promised
+// than that some bytes led to the tables.
+pub fn take_input(
+    rt: &(impl Input + Print),
+    areas: &mut [u64],
+    pages: &mut [u32],
+    lines: bool,
+) -> io::Result<Progress>
+    ensures part_held { IfOk result (λ at. at.filled < record_size) }
+    ensures ok { IfOk result (λ at. Comes None None (session (tables areas.old pages.old 0) []) (tables areas.new pages.new at.count) at.filled) }
+    ensures err { OnErr result ((count : ℕ) × (filled : ℕ) × Comes None None
+        (session (tables areas.old pages.old 0) []) (tables areas.new pages.new count) filled) }
+{
+    let mut reader = rt.reader();
+    take_all(rt, &mut reader, areas, pages, lines)
 }
 
 // Reads until the buffer is full or the input ends, and answers how many bytes that are. It fails only where a read does. What was
@@ -143,7 +156,7 @@ pub fn read_full<R: Read>(reader: &mut R, buf: &mut [u8]) -> io::Result<usize>
 }
 
 // The record program: a line for each request, and at the end the areas. Input that cannot be read and lines that cannot be
-// written end it early with that error, and no areas are listed then.
+// written end it early with that error, and no areas are listed then, or a part of them where they cannot be written.
 pub fn record(rt: &(impl Input + Print)) -> io::Result<()> {
     let mut areas = [0u64; AREA_WORDS];
     let mut pages = [0u32; PAGES];
