@@ -34,17 +34,16 @@ module _ (a b c : Option (List ℕ)) (buf part : List ℕ) (k room : ℕ) (fille
 pub block_fits : (filled n : ℕ) (buf : List ℕ) → filled < record_size → length buf ≤ 32768 → room_for (filled + length (take n buf)) ≤ 65536
 block_fits filled n buf part long = omega (arith, length-take n buf)
 
-pub runs_kept : (a b : Option (List ℕ)) (s : Session) → Keeps a b → Runs a b s s
+-- no byte leads anywhere
+pub runs_none : (a b : Option (List ℕ)) (s : Session) → Consumes a b [] → Runs a b s s
 unfolding takes
-runs_kept a b s kept = ([], Consumes-kept a a b [] (Consumes-nil a) kept, refl)
+runs_none a b s none = ([], none, refl)
+
+pub runs_kept : (a b : Option (List ℕ)) (s : Session) → Keeps a b → Runs a b s s
+runs_kept a b s kept = runs_none a b s (Consumes-kept a a b [] (Consumes-nil a) kept)
 
 pub runs_nothing : (a b : Option (List ℕ)) (s : Session) (n : ℕ) (buf : List ℕ) → n ≡ 0 → Consumes a b (take n buf) → Runs a b s s
-unfolding takes
-runs_nothing a b s n buf none read = ([], subst (λ m. Consumes a b (take m buf)) none read, refl)
-
-pub runs_none : (a : Option (List ℕ)) (s : Session) → Runs a a s s
-unfolding takes
-runs_none a s = ([], Consumes-nil a, refl)
+runs_nothing a b s n buf none read = runs_none a b s (subst (λ m. Consumes a b (take m buf)) none read)
 
 -- a block more
 pub runs_on : (a b c : Option (List ℕ)) (s s' s'' : Session) → Runs a b s s' → Runs b c s' s'' → Runs a c s s''

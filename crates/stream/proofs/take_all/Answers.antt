@@ -1,10 +1,11 @@
 -- `take_all` meets its contract: block by block, the input so far led to the tables. Assumes nothing.
 use Rattle.std.proofs.Common.{rules, take, refl, true≢false}
+use Rattle.std.proofs.KnownBytes.{Consumes-nil}
 use Rattle.stream.proofs.Reading.{runs_none, runs_on, on_err}
 use Rattle.stream.proofs.take_all.Goals as goal
 
 pub loop-blocks-init : goal.loop-blocks-init
-loop-blocks-init g c = (search rules, search rules, λ e. absurd (true≢false e), runs_none _ _)
+loop-blocks-init g c = (search rules, search rules, λ e. absurd (true≢false e), runs_none _ _ _ (Consumes-nil _))
 
 pub returns-in_err-at-clause-err : goal.returns-in_err-at-clause-err
 returns-in_err-at-clause-err g c =
