@@ -11,6 +11,9 @@ use lib.Dec.{eqb}
 use lib.ListN.{length, get_or, drop, drop_of_length-le}
 use lib.Seq.{drop-cons}
 use borrow.Author.Tests.{eq-eqb, ne_eqb, eqb-true, not-false}
+use Rattle.std.proofs.Common.{Some, None}
+use Rattle.lists.specs.Found.{found_below}
+use Rattle.lists.proofs.Found.{found_at, some_slot, none_slot}
 use Rattle.lists.proofs.Every.{by_test}
 use Rattle.page_table.specs.Limits.{page_size}
 use Rattle.area.specs.Area.{first_page, end_page, holds, area_entry, nothing}
@@ -83,31 +86,44 @@ module _ {areas : List Area} {entries : List ℕ} {slot page : ℕ} (l : Looked 
   unfolding disagrees
   after k c = rw (held_no_more a k c)
 
-  module _ (mapped : ℕ) (m : mapped ≡ lowest_in (differs unmapped entries) page (first_page a)) where
-    rest_here : first_wrong areas entries ≡ lowest_in (disagrees (a ∷ later) entries) page (length entries)
-    rest_here = l.rest ∙ rw from_here
+  rest_here : first_wrong areas entries ≡ lowest_in (disagrees (a ∷ later) entries) page (length entries)
+  rest_here = l.rest ∙ rw from_here
 
-    pub stops_before : mapped < first_page a → first_wrong areas entries ≡ mapped
-    stops_before h = rest_here ∙ lowest_stops (disagrees (a ∷ later) entries) (differs unmapped entries) page (first_page a) (length entries) starts (omega (arith, ends)) gap mapped m h
+  -- a page in the gap before the area is the answer
+  pub stops_before : (wrong : ℕ) → Some wrong ≡ found_below (first_page a) (lowest_in (differs unmapped entries) page (first_page a))
+      → Some wrong ≡ found_below (length entries) (first_wrong areas entries)
+  stops_before wrong m =
+      let f = some_slot (first_page a) (lowest_in (differs unmapped entries) page (first_page a)) wrong m in
+      let stops = lowest_stops (disagrees (a ∷ later) entries) (differs unmapped entries) page (first_page a) (length entries) starts (omega (arith, ends)) gap wrong f.0 (omega (arith, f)) in
+      found_at (length entries) (first_wrong areas entries) wrong (rest_here ∙ stops) (omega (arith, f, ends))
 
-    module _ (none : first_page a ≤ mapped) (other : ℕ) (w : other ≡ lowest_in (differs (area_entry a) entries) (first_page a) (end_page a)) where
-      rest_inside : first_wrong areas entries ≡ lowest_in (disagrees (a ∷ later) entries) (first_page a) (length entries)
-      rest_inside = rest_here ∙ lowest_past (disagrees (a ∷ later) entries) (differs unmapped entries) page (first_page a) (length entries) starts (omega (arith, ends)) gap mapped m none
+  module _ (none : None ≡ found_below (first_page a) (lowest_in (differs unmapped entries) page (first_page a))) where
+    rest_inside : first_wrong areas entries ≡ lowest_in (disagrees (a ∷ later) entries) (first_page a) (length entries)
+    rest_inside =
+        let m : ℕ = lowest_in (differs unmapped entries) page (first_page a) in
+        rest_here
+        ∙ lowest_past (disagrees (a ∷ later) entries) (differs unmapped entries) page (first_page a) (length entries) starts (omega (arith, ends)) gap m refl (none_slot (first_page a) m none)
 
-      pub stops_inside : other < end_page a → first_wrong areas entries ≡ other
-      stops_inside h = rest_inside ∙ lowest_stops (disagrees (a ∷ later) entries) (differs (area_entry a) entries) (first_page a) (end_page a) (length entries) ends.0 ends.1 inside other w h
+    -- a page of the area is the answer
+    pub stops_inside : (wrong : ℕ) → Some wrong ≡ found_below (end_page a) (lowest_in (differs (area_entry a) entries) (first_page a) (end_page a))
+        → Some wrong ≡ found_below (length entries) (first_wrong areas entries)
+    stops_inside wrong w =
+        let f = some_slot (end_page a) (lowest_in (differs (area_entry a) entries) (first_page a) (end_page a)) wrong w in
+        let stops = lowest_stops (disagrees (a ∷ later) entries) (differs (area_entry a) entries) (first_page a) (end_page a) (length entries) ends.0 ends.1 inside wrong f.0 (omega (arith, f)) in
+        found_at (length entries) (first_wrong areas entries) wrong (rest_inside ∙ stops) (omega (arith, f, ends))
 
-      pub look_on : end_page a ≤ other → Looked areas entries (slot + 1) (end_page a)
-      look_on h =
-          record {
-            before = a.end;
-            ordered = elim here [ one_more g b o ↦ o ];
-            at = refl;
-            upto = ends.1;
-            rest = rest_inside
-                ∙ lowest_past (disagrees (a ∷ later) entries) (differs (area_entry a) entries) (first_page a) (end_page a) (length entries) ends.0 ends.1 inside other w h
-                ∙ lowest_same (disagrees (a ∷ later) entries) (disagrees later entries) (end_page a) (length entries) (λ k c d. after k c);
-          }
+    pub look_on : None ≡ found_below (end_page a) (lowest_in (differs (area_entry a) entries) (first_page a) (end_page a)) → Looked areas entries (slot + 1) (end_page a)
+    look_on w =
+        let m : ℕ = lowest_in (differs (area_entry a) entries) (first_page a) (end_page a) in
+        record {
+          before = a.end;
+          ordered = elim here [ one_more g b o ↦ o ];
+          at = refl;
+          upto = ends.1;
+          rest = rest_inside
+              ∙ lowest_past (disagrees (a ∷ later) entries) (differs (area_entry a) entries) (first_page a) (end_page a) (length entries) ends.0 ends.1 inside m refl (none_slot (end_page a) m w)
+              ∙ lowest_same (disagrees (a ∷ later) entries) (disagrees later entries) (end_page a) (length entries) (λ k c d. after k c);
+        }
 
 -- no area is left: every page that is left has to be unmapped
 pub look_ends : {areas : List Area} {entries : List ℕ} {slot page : ℕ} → Looked areas entries slot page → length areas ≤ slot

@@ -1,68 +1,59 @@
 // Whether the page table agrees with the areas: the lowest page whose entry is not what its area says, or not 0 where no area lies.
 #![tactic(auto)]
 
-ghost use Rattle.std.specs.Prelude.{◌≡◌, true, ◌≤◌, length};
-ghost use Rattle.page_table.specs.Entry.{entry_of};
+ghost use Rattle.std.specs.Prelude.{◌≡◌, ℕ, true, ◌≤◌, length};
+ghost use Rattle.lists.specs.Found.{found_below};
 ghost use Rattle.area_list.specs.Layout.{rows};
 ghost use Rattle.area_list.specs.Good.{good_tables};
-ghost use Rattle.agreement.specs.Agree.{differs, unmapped, lowest_in, first_wrong};
+ghost use Rattle.agreement.specs.Agree.{differs, lowest_in, first_wrong};
 
-use area_list::area_at;
-use page_table::{Backend, PAGE};
+use area_list::Areas;
+use page_table::PAGE;
 
-// The lowest page from first up to end that has an entry, or end.
-fn first_mapped(pages: &[u32], first: usize, end: usize) -> usize
-    requires { end ≤ length pages.now }
-    ensures { result ≡ lowest_in (differs unmapped pages.now) first end }
+// The lowest page from first up to end whose entry is not what is said of the page.
+fn first_differing<F: Fn(usize) -> u32>(
+    pages: &[u32],
+    first: usize,
+    end: usize,
+    says: F,
+) -> Option<usize>
+    requires callable { F.IsAlwaysCallable says }
+    requires end_in_bounds { end ≤ length pages.now }
+    // Where the entries that it says are those of a rule.
+    ensures { (rule : ℕ → ℕ) → ((page entry : ℕ) → F.post says page entry → entry ≡ rule page)
+        → result ≡ found_below end (lowest_in (differs rule pages.now) first end) }
 {
-    let mut page = first;
-    while page < end {
-        if pages[page] != 0 {
-            return page;
+    for page in first..end {
+        if pages[page] != says(page) {
+            return Some(page);
         }
-        page += 1;
     }
-    page
+    None
 }
 
-// The lowest page from first up to end whose entry is not the one that an area with this backend and these flags gives it, or end.
-fn first_other(pages: &[u32], first: usize, end: usize, flags: u32, backend: Backend) -> usize
-    requires { end ≤ length pages.now }
-    ensures { result ≡ lowest_in (differs (entry_of backend flags) pages.now) first end }
+// The lowest page that disagrees with the areas. The pages between areas and those of each area are looked at in turn, so each page
+// is looked at once. That the tables are good ties the list to another table, so it stays a clause, as in `wipe_areas`.
+pub fn first_wrong(areas: Areas<'_>, pages: &[u32]) -> Option<usize>
+    requires { good_tables areas.words.now areas.count (length pages.now) ≡ true }
+    ensures { result ≡ found_below (length pages.now) (first_wrong (rows areas.entry.words.now areas.entry.count) pages.now) }
 {
-    let mut page = first;
-    while page < end {
-        if pages[page] != backend.entry(flags, page) {
-            return page;
-        }
-        page += 1;
-    }
-    page
-}
-
-// The lowest page that disagrees with the areas, or the number of pages. The pages between areas and those of each area are
-// looked at in turn, so each page is looked at once.
-pub fn first_wrong(areas: &[u64], pages: &[u32], count: usize) -> usize
-    requires { good_tables areas.now count (length pages.now) ≡ true }
-    ensures { result ≡ first_wrong (rows areas.now count) pages.now }
-{
-    let mut page = 0;
-    let mut slot = 0;
-    while slot < count {
-        let area = area_at(areas, count, slot);
+    let mut from = 0;
+    for slot in 0..areas.count {
+        let area = areas.at(slot);
         let first = (area.start / PAGE) as usize;
         let end = (area.end / PAGE) as usize;
-        let mapped = first_mapped(pages, page, first);
-        if mapped < first {
-            return mapped;
+        if let Some(mapped) = first_differing(pages, from, first, |_| 0) {
+            return Some(mapped);
         }
-        let backend = area.backend;
-        let other = first_other(pages, first, end, area.flags, backend);
-        if other < end {
-            return other;
+        if let Some(other) = first_differing(
+            pages,
+            first,
+            end,
+            |page| area.backend.entry(area.flags, page),
+        ) {
+            return Some(other);
         }
-        page = end;
-        slot += 1;
+        from = end;
     }
-    first_mapped(pages, page, pages.len())
+    first_differing(pages, from, pages.len(), |_| 0)
 }

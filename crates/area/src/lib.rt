@@ -2,18 +2,16 @@
 // an area wipes their entries.
 #![tactic(auto)]
 
-ghost use Rattle.std.specs.Prelude.{◌≡◌, ◌-◌, eqb};
-ghost use Rattle.area.specs.Answer.{number};
+ghost use Rattle.std.specs.Prelude.{◌≡◌, ◌-◌};
+ghost use Rattle.area.specs.Answer.{number, number_of};
 ghost use Rattle.area.specs.Area.{good_area, part, nothing};
 
 use page_table::entry::FLAGS;
 use page_table::{Backend, PAGE};
 
-// What a call answers, by document 01's names and numbers.
-#[derive(Clone, Copy)]
-pub enum Answer {
-    // 0
-    Accepted,
+// Why a call is refused, by document 01's names and numbers. What a call answers is a `Result` with this error: 0 where it is `Ok`.
+#[derive(Clone, Copy, Debug, PartialEq, Eq)]
+pub enum Refusal {
     // 1: the tables lent, or the area given, are not good.
     BadTables,
     // 2: a start, size or cut that is no multiple of 4,096, or a size no multiple of the alignment asked for.
@@ -30,26 +28,30 @@ pub enum Answer {
     NotFound,
 }
 
-impl Answer {
+impl Refusal {
+    // 01's table, line by line. A method, and no `From`: u32 has many readings, and here the name says which.
     pub fn number(self) -> u32
         ensures { result ≡ number self }
     {
         match self {
-            Answer::Accepted => 0,
-            Answer::BadTables => 1,
-            Answer::NotAligned => 2,
-            Answer::InvalidParam => 3,
-            Answer::AlreadyExists => 4,
-            Answer::BadState => 5,
-            Answer::NoRoom => 6,
-            Answer::NotFound => 7,
+            Refusal::BadTables => 1,
+            Refusal::NotAligned => 2,
+            Refusal::InvalidParam => 3,
+            Refusal::AlreadyExists => 4,
+            Refusal::BadState => 5,
+            Refusal::NoRoom => 6,
+            Refusal::NotFound => 7,
         }
     }
+}
 
-    pub fn accepted(self) -> bool
-        ensures { result ≡ eqb (number self) 0 }
-    {
-        self.number() == 0
+// The number of an answer: 0 where the call was accepted.
+pub fn number_of<T>(answer: &Result<T, Refusal>) -> u32
+    ensures { result ≡ number_of answer.now }
+{
+    match answer {
+        Ok(_) => 0,
+        Err(refusal) => refusal.number(),
     }
 }
 
@@ -79,11 +81,7 @@ impl Area {
     pub fn size(self) -> u64
         ensures { result ≡ self.end - self.start }
     {
-        if self.start < self.end {
-            self.end - self.start
-        } else {
-            0
-        }
+        self.end.saturating_sub(self.start)
     }
 
     // Whether good tables with this space could hold the area.
@@ -105,8 +103,8 @@ impl Area {
         if FLAGS < self.flags {
             return false;
         }
-        let backend = self.backend;
-        backend.fits((self.start / PAGE) as usize, (self.end / PAGE) as usize)
+        self.backend
+            .fits((self.start / PAGE) as usize, (self.end / PAGE) as usize)
     }
 
     // The addresses from start up to end with this area's flags and backend: the backend is kept as it is, so every page
@@ -114,12 +112,6 @@ impl Area {
     pub fn part(self, start: u64, end: u64) -> Area
         ensures { result ≡ part self start end }
     {
-        let backend = self.backend;
-        Area {
-            start,
-            end,
-            flags: self.flags,
-            backend,
-        }
+        Area { start, end, ..self }
     }
 }

@@ -1,23 +1,25 @@
 -- Laws of the good test: each row's part as facts, how it goes row by row, and what good tables tell. Assumes nothing.
 use Prim.Native.Nat.{ℕ, zero, suc, ◌+◌, ◌-◌, ◌*◌, ◌^◌, ◌≤◌, ◌<◌}
 use mathlib.Core.Path.{◌≡◌, refl, sym, ap, ◌∙◌}
-use mathlib.Core.Bool.{Bool, true, false, cond, and-true, true≢false}
+use mathlib.Core.Bool.{Bool, true, false, not, cond, and-true, true≢false}
 use mathlib.Core.List.{List}
 use native.Mathlib.Omega.{arith}
 use native.Mathlib.Decide.{dec_lt}
-use native.Mathlib.Nat.{sub-zero}
 use lib.Dec.{eqb, eqb-suc-suc, eqb-zero-suc}
 use lib.ListN.{length, get_or, take, drop}
 use lib.Seq.{length-take-le, get_or-drop}
 use borrow.Author.Tests.{le-leb, leb-true}
+use Rattle.std.specs.Prelude.{Option, is_some, is_none}
 use Rattle.lists.specs.Every.{every}
 use Rattle.lists.proofs.Every.{and_left, and_right, every_at, by_test, refuted}
 use Rattle.page_table.specs.Limits.{max_pages}
 use Rattle.area.specs.Area.{good_area}
 use Rattle.area.proofs.Areas.{Good, good_is}
 use Rattle.area_list.specs.Layout.{words_per_area, capacity_of, legal_word, LegalRow, row_of, row_at, area_of, rows}
+use Rattle.lists.specs.Found.{found_below}
 use Rattle.area_list.specs.Good.{space_of, row_tests, good_row, good_rows, first_bad, table_tests, good_tables}
 use Rattle.area_list.specs.declared.Row.{Row}
+use Rattle.lists.proofs.Found.{found_by}
 use Rattle.area_list.proofs.Ordered.{Ordered, none_left, one_more}
 use Rattle.area_list.proofs.Rows.{legal_short, next_slot, slot_under, first_taken, rest_taken, rest_room}
 
@@ -40,21 +42,23 @@ row_is space before r e =
 pub not_row : (space before : ℕ) (r : Row) → (GoodFacts space before r → ⊥) → good_row space before r ≡ false
 not_row space before r h = refuted (good_row space before r) (λ e. h (row_is space before r e))
 
-pub illegal_row : (space before : ℕ) (r : Row) → legal_word r.backend ≡ false → good_row space before r ≡ false
-illegal_row space before r w = not_row space before r (λ f. true≢false (sym f.legal ∙ w))
+pub early_row : (space before : ℕ) (r : Row) → r.start < before → good_row space before r ≡ false
+early_row space before r h = not_row space before r (λ f. omega (arith, f.after))
+
+pub illegal_row : (space before : ℕ) (r : Row) → (LegalRow r → ⊥) → good_row space before r ≡ false
+illegal_row space before r h = not_row space before r (λ f. h (record { flags_fit = f.good.flags_legal; word_legal = f.legal }))
 
 -- with the word and the order known, the area decides
 pub area_decides : (space before : ℕ) (r : Row) → before ≤ r.start → legal_word r.backend ≡ true → good_row space before r ≡ good_area space (area_of r)
 unfolding good_row every
 area_decides space before r b w = rw (le-leb before r.start b, w) (and-true (good_area space (area_of r)))
 
+pub legal_decides : (space before : ℕ) (r : Row) → before ≤ r.start → LegalRow r → good_row space before r ≡ good_area space (area_of r)
+legal_decides space before r b l = area_decides space before r b l.word_legal
+
 -- ---- row by row
 
--- at slot i the search begins, ends, or looks at the next row
-pub first_begins : (space before : ℕ) (ws : List ℕ) (count : ℕ)
-    → first_bad space before ws count ≡ 0 + first_bad space before (drop (words_per_area * 0) ws) (count - 0)
-first_begins space before ws count = rw (sub-zero count) (omega arith)
-
+-- at slot i the search ends, or looks at the next row
 pub first_ends : (space before : ℕ) (ws : List ℕ) (i count : ℕ) → i ≤ count → count ≤ i
     → i + first_bad space before (drop (words_per_area * i) ws) (count - i) ≡ count
 unfolding first_bad
@@ -183,6 +187,16 @@ rows_decide ws count p a b =
 pub first_decides : (ws : List ℕ) (count p k : ℕ) → p ≤ max_pages → count ≤ capacity_of (length ws) → k ≡ first_bad (space_of p) 0 ws count
     → eqb k count ≡ good_tables ws count p
 first_decides ws count p k a b e = rw (e, rows_decide ws count p a b) (sym (rows_by_first (space_of p) 0 ws count))
+
+not_back : (a b : Bool) → a ≡ not b → b ≡ not a
+not_back a true e = rw e
+not_back a false e = rw e
+
+-- so does whether a search for it finds none
+pub none_decides : (ws : List ℕ) (count p : ℕ) (o : Option ℕ) (b : Bool) → p ≤ max_pages → count ≤ capacity_of (length ws)
+    → o ≡ found_below count (first_bad (space_of p) 0 ws count) → is_some o ≡ not b → b ≡ good_tables ws count p
+none_decides ws count p o b few fits e none =
+    not_back (is_some o) b none ∙ ap is_none e ∙ found_by count _ (bad_within (space_of p) 0 ws count) ∙ first_decides ws count p _ few fits refl
 
 -- a count within the capacity lies within the words
 pub count_fits : (ws : List ℕ) (count : ℕ) → count ≤ capacity_of (length ws) → words_per_area * count ≤ length ws

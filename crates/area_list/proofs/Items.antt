@@ -1,6 +1,6 @@
 -- Laws of what a slot has: when it is an area, and that in good tables it is one exactly below the count. Assumes nothing.
-use Prim.Native.Nat.{ℕ, ◌*◌, ◌+◌, ◌≤◌, ◌<◌}
-use mathlib.Core.Path.{◌≡◌, refl, ◌∙◌}
+use Prim.Native.Nat.{ℕ, ◌≤◌, ◌<◌}
+use mathlib.Core.Path.{◌≡◌, refl, sym, ◌∙◌}
 use mathlib.Core.Bool.{Bool, true, false, cond}
 use mathlib.Core.List.{List}
 use native.Mathlib.Omega.{arith}
@@ -11,10 +11,12 @@ use Rattle.lists.proofs.Every.{every_at, refuted}
 use Rattle.area.specs.Area.{nothing}
 use Rattle.area.specs.declared.Area.{Area}
 use Rattle.page_table.specs.Limits.{max_flags}
-use Rattle.area_list.specs.Layout.{words_per_area, capacity_of, LegalRow, row_at, area_of, rows}
+use Rattle.area_list.specs.Layout.{capacity_of, LegalRow, Reads, row_at, rows}
 use Rattle.area_list.specs.Item.{slot_tests, item_at}
 use Rattle.area_list.specs.declared.Row.{Row}
-use Rattle.area_list.specs.declared.Item.TheVariants.{Some, None}
+use Rattle.std.specs.Prelude.{Some, None, Ok, Err, Result}
+use Rattle.std.specs.Result.{result_ok}
+use Rattle.area_list.specs.declared.NoArea.{NoArea}
 use Rattle.area_list.proofs.Goodness.{GoodTables}
 use Rattle.area_list.proofs.Rows.{rows_at}
 
@@ -49,6 +51,9 @@ module _ (ws : List ℕ) (count slot : ℕ) where
   unfolding item_at
   some_has a e = has_area (chosen (every (slot_tests ws count slot)) (get_or (rows ws count) slot nothing) a e)
 
+  pub some_below : (a : Area) → item_at ws count slot ≡ Some a → slot < count
+  some_below a e = (some_has a e).below
+
   pub item_none : (HasArea ws count slot → ⊥) → item_at ws count slot ≡ None
   unfolding item_at
   item_none h = rw (refuted (every (slot_tests ws count slot)) (λ e. h (has_area e)))
@@ -59,15 +64,9 @@ module _ (ws : List ℕ) (count slot : ℕ) where
   pub good_item : {p : ℕ} → GoodTables ws count p → slot < count → item_at ws count slot ≡ Some (get_or (rows ws count) slot nothing)
   good_item g h = item_some (record { below = h; room = omega (arith, g.count_few); legal = g.legal slot h })
 
--- from the words that were read: a slot without an area, and one with it
-module _ (ws : List ℕ) (count slot : ℕ) (r : Row) (at : r ≡ row_at ws slot) where
-  pub illegal_none : (LegalRow r → ⊥) → item_at ws count slot ≡ None
-  illegal_none h = item_none ws count slot (λ a. h (rw at a.legal))
-
-  pub legal_some : slot < count → slot < capacity_of (length ws) → LegalRow r → item_at ws count slot ≡ Some (area_of r)
-  legal_some below room legal = item_some ws count slot (record { below = below; room = room; legal = rw (← at) legal }) ∙ rw (rows_at ws count slot below, ← at)
-
--- the words of a slot below the capacity lie in the table
-pub slot_fits : (words slot : ℕ) → slot < capacity_of words → words_per_area * slot + words_per_area ≤ words
-unfolding capacity_of
-slot_fits words slot h = omega arith
+-- from the words that were read: what reading them gives
+module _ (ws : List ℕ) (count slot : ℕ) (r : Row) (at : r ≡ row_at ws slot) (below : slot < count) (room : slot < capacity_of (length ws)) where
+  pub item_reads : (o : Result Area NoArea) → Reads r o → result_ok o ≡ item_at ws count slot
+  item_reads (Ok a) h =
+      sym (item_some ws count slot (record { below = below; room = room; legal = rw (← at) h.0 }) ∙ rw (rows_at ws count slot below, ← at, h.1))
+  item_reads (Err e) h = sym (item_none ws count slot (λ a. h (rw at a.legal)))

@@ -1,18 +1,21 @@
--- Laws of positions: what a position parts, binary search turn by turn, and that good tables are sorted. Assumes nothing.
-use Prim.Native.Nat.{ℕ, zero, suc, ◌+◌, ◌-◌, ◌*◌, ◌≤◌, ◌<◌}
+-- Laws of positions: what a position parts, the rows that a search parts, and that good tables are sorted. Assumes nothing.
+use Prim.Native.Nat.{ℕ, zero, suc, ◌+◌, ◌*◌, ◌≤◌, ◌<◌}
 use mathlib.Core.Path.{◌≡◌, refl, sym, ap, ◌∙◌}
 use mathlib.Core.Bool.{Bool, true, false, and-false}
 use mathlib.Core.List.{List, [], ◌∷◌}
 use native.Mathlib.Omega.{arith}
 use native.Mathlib.Decide.{dec_lt}
-use native.Mathlib.Nat.{le_trans, add-zero}
-use lib.Dec.{leb}
-use lib.ListN.{length, get_or}
-use borrow.Author.Tests.{lt-ltb, le-ltb, le-leb, lt-leb, ltb-true, ltb-false}
+use native.Mathlib.Nat.{add-zero}
+use lib.Dec.{leb, ltb}
+use lib.ListN.{length, get_or, take, drop}
+use lib.Seq.{get_or-take, get_or-drop}
+use borrow.Author.Tests.{lt-ltb, le-ltb, le-leb, lt-leb, ltb-true, ltb-false, leb-true, leb-false}
+use Rattle.std.specs.Simd.{first_chunks}
+use Rattle.std.specs.List.Sorted.{IsNonDecreasingBy, IsPartitionPoint}
 use Rattle.area.specs.Area.{nothing}
 use Rattle.area.specs.declared.Area.{Area}
 use Rattle.area_list.specs.Layout.{words_per_area, row_at, rows}
-use Rattle.area_list.specs.Position.{first_where, ends_past, starts_from, contains, Rising, Boundary, SortedRows}
+use Rattle.area_list.specs.Position.{first_where, ends_past, starts_from, contains, SortedRows}
 use Rattle.area_list.proofs.Ordered.{good_at, starts_rise, ends_rise}
 use Rattle.area_list.proofs.Rows.{row_words, length_rows, rows_at}
 use Rattle.area_list.proofs.Goodness.{GoodTables, count_fits}
@@ -60,82 +63,80 @@ unfolding first_where
 first p [] = record { in_list = omega arith; fails = λ k h. absurd (omega arith); passes = λ h. absurd (omega arith) }
 first p (a ∷ xs) = first_by p a xs (p a) refl (first p xs)
 
--- ---- binary search
+-- ---- the words, four a row
 
-pub record Between (ws : List ℕ) (count column value low high : ℕ) : Type 0 where
-  pub ordered : low ≤ high
-  pub within : high ≤ count
-  pub below : (k : ℕ) → k < low → get_or ws (words_per_area * k + column) 0 ≤ value
-  pub above : (k : ℕ) → high ≤ k → k < count → value < get_or ws (words_per_area * k + column) 0
+-- of m rows, the first n
+pub first_rows : (ws : List ℕ) (m n : ℕ) → n ≤ m → take n (first_chunks words_per_area m ws) ≡ first_chunks words_per_area n ws
+first_rows ws m zero h = refl
+first_rows ws zero (suc n) h = absurd (omega arith)
+first_rows ws (suc m) (suc n) h = ap (λ (rest : List (List ℕ)). take words_per_area ws ∷ rest) (first_rows (drop words_per_area ws) m n (omega arith))
 
-pub search_begins : (ws : List ℕ) (count column value : ℕ) → Between ws count column value 0 count
-search_begins ws count column value =
-    record { ordered = omega arith; within = omega arith; below = λ k h. absurd (omega arith); above = λ k h l. absurd (omega arith) }
+pub length_words : (ws : List ℕ) (n : ℕ) → length (first_chunks words_per_area n ws) ≡ n
+length_words ws zero = refl
+length_words ws (suc n) = ap suc (length_words (drop words_per_area ws) n)
 
-module _ {ws : List ℕ} {count column value low high : ℕ} (rising : Rising ws count column) (b : Between ws count column value low high) where
-  pub go_up : (middle : ℕ) → low ≤ middle → middle < high → get_or ws (words_per_area * middle + column) 0 ≤ value → Between ws count column value (middle + 1) high
-  go_up middle l h small =
-      record {
-        ordered = omega arith;
-        within = b.within;
-        below = λ k j. le_trans (rising.rises k middle (omega arith) (omega arith)) small;
-        above = b.above;
-      }
+row_word : (ws : List ℕ) (n i column : ℕ) (d : List ℕ) → i < n → column < words_per_area
+    → get_or (get_or (first_chunks words_per_area n ws) i d) column 0 ≡ get_or ws (words_per_area * i + column) 0
+row_word ws zero i column d h l = absurd (omega arith)
+row_word ws (suc n) zero column d h l =
+    let e : column ≡ 4 * 0 + column = omega arith in
+    get_or-take 4 ws column 0 l ∙ ap (λ (k : ℕ). get_or ws k 0) e
+row_word ws (suc n) (suc i) column d h l =
+    let e : 4 + (4 * i + column) ≡ 4 * suc i + column = omega arith in
+    row_word (drop 4 ws) n i column d (omega arith) l ∙ get_or-drop 4 ws (4 * i + column) 0 ∙ ap (λ (k : ℕ). get_or ws k 0) e
 
-  pub go_down : (middle : ℕ) → low ≤ middle → middle < high → value < get_or ws (words_per_area * middle + column) 0 → Between ws count column value low middle
-  go_down middle l h large =
-      record {
-        ordered = l;
-        within = omega arith;
-        below = b.below;
-        above = λ k j m. let r = rising.rises middle k j m in omega arith;
-      }
+-- the start and the end in a row
+abbrev pub start_in : List ℕ → ℕ
+start_in row = get_or row 0 0
 
-  pub search_ends : high ≤ low → Boundary ws count column value low
-  search_ends h = record { within = omega arith; below = b.below; above = λ k j m. b.above k (omega arith) m }
+abbrev pub end_in : List ℕ → ℕ
+end_in row = get_or row 1 0
 
--- ---- columns
+module _ (ws : List ℕ) (count : ℕ) where
+  abbrev table : List (List ℕ)
+  table = first_chunks words_per_area count ws
 
-start_word : (ws : List ℕ) (i : ℕ) → get_or ws (words_per_area * i + 0) 0 ≡ (row_at ws i).start
-start_word ws i = rw (row_words ws i, add-zero (words_per_area * i))
+  start_is : (i : ℕ) (d : List ℕ) → i < count → start_in (get_or table i d) ≡ (row_at ws i).start
+  start_is i d h = row_word ws count i 0 d h (omega arith) ∙ rw (row_words ws i, add-zero (words_per_area * i))
 
-end_word : (ws : List ℕ) (i : ℕ) → get_or ws (words_per_area * i + 1) 0 ≡ (row_at ws i).end
-end_word ws i = rw (row_words ws i)
+  end_is : (i : ℕ) (d : List ℕ) → i < count → end_in (get_or table i d) ≡ (row_at ws i).end
+  end_is i d h = row_word ws count i 1 d h (omega arith) ∙ rw (row_words ws i)
 
-module _ (ws : List ℕ) (count : ℕ) (s : SortedRows ws count) where
-  pub starts_column : Rising ws count 0
-  starts_column = record { room = s.room; inside = omega arith; rises = λ i j h l. rw (start_word ws i, start_word ws j) (s.starts i j h l) }
+  module _ (s : SortedRows ws count) where
+    pub starts_column : IsNonDecreasingBy start_in table
+    starts_column i j d h l =
+        let m : j < count = omega (arith, length_words ws count, l) in
+        rw (start_is i d (omega arith), start_is j d m) (s.starts i j h m)
 
-  pub ends_column : Rising ws count 1
-  ends_column = record { room = s.room; inside = omega arith; rises = λ i j h l. rw (end_word ws i, end_word ws j) (s.ends i j h l) }
+    pub ends_column : IsNonDecreasingBy end_in table
+    ends_column i j d h l =
+        let m : j < count = omega (arith, length_words ws count, l) in
+        rw (end_is i d (omega arith), end_is j d m) (s.ends i j h m)
 
--- the boundary of a column is the position
-module _ (ws : List ℕ) (count address r : ℕ) where
-  pub ending_is : Boundary ws count 1 address r → r ≡ first_where (ends_past address) (rows ws count)
-  unfolding ends_past
-  ending_is b =
-      first_is (ends_past address) (rows ws count) r (omega (arith, length_rows ws count, b.within))
-      (λ k h. let l : k < count = omega (arith, b.within) in
-      rw (rows_at ws count k l) (le-ltb address (row_at ws k).end (rw (end_word ws k) at (b.below k h))))
-      (λ h. let l : r < count = omega (arith, length_rows ws count) in
-      rw (rows_at ws count r l) (lt-ltb address (row_at ws r).end (rw (end_word ws r) at (b.above r (omega arith) l))))
+  -- the point that parts the rows is the position
+  module _ (address r : ℕ) (within : r ≤ length table) where
+    inside : r ≤ count
+    inside = omega (arith, length_words ws count, within)
 
-  pub starting_is : (address ≡ 0 → ⊥) → Boundary ws count 0 (address - 1) r → r ≡ first_where (starts_from address) (rows ws count)
-  unfolding starts_from
-  starting_is z b =
-      first_is (starts_from address) (rows ws count) r (omega (arith, length_rows ws count, b.within))
-      (λ k h. let l : k < count = omega (arith, b.within) in
-      let m : (row_at ws k).start ≤ address - 1 = rw (start_word ws k) at (b.below k h) in
-      rw (rows_at ws count k l) (lt-leb address (row_at ws k).start (omega arith)))
-      (λ h. let l : r < count = omega (arith, length_rows ws count) in
-      let m : address - 1 < (row_at ws r).start = rw (start_word ws r) at (b.above r (omega arith) l) in
-      rw (rows_at ws count r l) (le-leb address (row_at ws r).start (omega arith)))
+    pub ending_is : IsPartitionPoint (λ row. leb (end_in row) address ≡ true) (λ row. leb (end_in row) address ≡ false) table r
+        → r ≡ first_where (ends_past address) (rows ws count)
+    unfolding ends_past
+    ending_is p =
+        first_is (ends_past address) (rows ws count) r (omega (arith, length_rows ws count, inside))
+        (λ k h. let l : k < count = omega (arith, inside) in
+        rw (rows_at ws count k l) (le-ltb address (row_at ws k).end (rw (end_is k [] l) at (leb-true _ _ (p.0 k [] (omega arith) h)))))
+        (λ h. let l : r < count = omega (arith, length_rows ws count) in
+        rw (rows_at ws count r l) (lt-ltb address (row_at ws r).end (rw (end_is r [] l) at (leb-false _ _ (p.1 r [] (omega arith) (omega (arith, length_words ws count)))))))
 
-pub starting_zero : (ws : List ℕ) (count address : ℕ) → address ≡ 0 → 0 ≡ first_where (starts_from address) (rows ws count)
-unfolding starts_from
-starting_zero ws count address z =
-    first_is (starts_from address) (rows ws count) 0 (omega arith) (λ k h. absurd (omega arith))
-    (λ h. le-leb address (get_or (rows ws count) 0 nothing).start (omega arith))
+    pub starting_is : IsPartitionPoint (λ row. ltb (start_in row) address ≡ true) (λ row. ltb (start_in row) address ≡ false) table r
+        → r ≡ first_where (starts_from address) (rows ws count)
+    unfolding starts_from
+    starting_is p =
+        first_is (starts_from address) (rows ws count) r (omega (arith, length_rows ws count, inside))
+        (λ k h. let l : k < count = omega (arith, inside) in
+        rw (rows_at ws count k l) (lt-leb address (row_at ws k).start (rw (start_is k [] l) at (ltb-true _ _ (p.0 k [] (omega arith) h)))))
+        (λ h. let l : r < count = omega (arith, length_rows ws count) in
+        rw (rows_at ws count r l) (le-leb address (row_at ws r).start (rw (start_is r [] l) at (ltb-false _ _ (p.1 r [] (omega arith) (omega (arith, length_words ws count)))))))
 
 -- good tables are sorted
 pub sorted : {ws : List ℕ} {count p : ℕ} → GoodTables ws count p → SortedRows ws count

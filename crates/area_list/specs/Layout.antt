@@ -1,10 +1,11 @@
 -- How areas lie in the lent words (01: "The lent area table holds four u64 words an area: start, end, flags, backend"). Nothing
 -- above this crate, good_tables, positions and slots names a word. Laws: `proofs/Rows.antt`. Assumes nothing.
-use Rattle.std.specs.Prelude.{ℕ, zero, suc, ◌+◌, ◌-◌, ◌*◌, ◌/◌, ◌^◌, ◌≤◌, min, ◌≡◌, Bool, true, ◌&&◌, ◌||◌, cond, List, [], ◌∷◌, leb, ltb, eqb, get_or, drop}
+use Rattle.std.specs.Prelude.{ℕ, zero, suc, ◌+◌, ◌-◌, ◌*◌, ◌/◌, ◌^◌, ◌≤◌, min, ◌≡◌, Bool, true, ◌&&◌, ◌||◌, cond, List, [], ◌∷◌, leb, ltb, eqb, get_or, drop, Result, MatchResult}
 use Rattle.page_table.specs.Limits.{max_flags}
 use Rattle.page_table.specs.declared.Backend.{Backend}
 use Rattle.page_table.specs.declared.Backend.TheVariants.{Lazy, Linear}
 use Rattle.area.specs.declared.Area.{Area}
+use Rattle.area_list.specs.declared.NoArea.{NoArea}
 use Rattle.area_list.specs.declared.Row.{Row}
 
 -- words an area, and the most areas
@@ -48,6 +49,10 @@ area_of r = record { start = r.start; end = r.end; flags = r.flags; backend = ba
 pub record LegalRow (r : Row) : Type 0 where
   pub flags_fit : r.flags ≤ max_flags
   pub word_legal : legal_word r.backend ≡ true
+
+-- what reading them gives: their area, or an error exactly where they stand for none
+abbrev pub Reads : Row → Result Area NoArea → Type 0
+Reads r outcome = MatchResult outcome (λ a. LegalRow r × (a ≡ area_of r)) (λ e. LegalRow r → ⊥)
 
 unfoldable pub words_of : Area → List ℕ
 words_of a = a.start ∷ a.end ∷ a.flags ∷ word_of a.backend ∷ []

@@ -1,5 +1,5 @@
 -- Positions in the list of areas, and what a list has to be for binary search. Laws: `proofs/Positions.antt`. Assumes nothing.
-use Rattle.std.specs.Prelude.{ℕ, suc, ◌+◌, ◌*◌, ◌≤◌, ◌<◌, Bool, ◌&&◌, cond, List, [], ◌∷◌, leb, ltb, length, get_or}
+use Rattle.std.specs.Prelude.{ℕ, suc, ◌*◌, ◌≤◌, ◌<◌, Bool, ◌&&◌, cond, List, [], ◌∷◌, leb, ltb, length}
 use Rattle.area.specs.declared.Area.{Area}
 use Rattle.area_list.specs.Layout.{words_per_area, LegalRow, row_at}
 
@@ -17,18 +17,6 @@ starts_from address a = leb address a.start
 -- the address lies in the area
 unfoldable pub contains : ℕ → Area → Bool
 contains address a = leb a.start address && ltb address a.end
-
--- the words at one place of each area's rise from slot to slot
-pub record Rising (ws : List ℕ) (count column : ℕ) : Type 0 where
-  pub room : words_per_area * count ≤ length ws
-  pub inside : column < words_per_area
-  pub rises : (i j : ℕ) → i ≤ j → j < count → get_or ws (words_per_area * i + column) 0 ≤ get_or ws (words_per_area * j + column) 0
-
--- r parts the slots whose word is at most value from those whose word is above it
-pub record Boundary (ws : List ℕ) (count column value r : ℕ) : Type 0 where
-  pub within : r ≤ count
-  pub below : (k : ℕ) → k < r → get_or ws (words_per_area * k + column) 0 ≤ value
-  pub above : (k : ℕ) → r ≤ k → k < count → value < get_or ws (words_per_area * k + column) 0
 
 -- what good tables say of their slots: legal words, no empty area, starts and ends in order
 pub record SortedRows (ws : List ℕ) (count : ℕ) : Type 0 where

@@ -5,7 +5,7 @@
 
 ghost use Rattle.std.specs.Prelude.{◌≡◌, true, ◌+◌, ◌*◌, ◌<◌, ◌≤◌, length, get_or};
 ghost use Rattle.area.specs.Area.{nothing};
-ghost use Rattle.area_list.specs.Layout.{words_per_area, capacity_of, row_at, area_of, legal_word, backend_of, word_of, LegalRow, rows};
+ghost use Rattle.area_list.specs.Layout.{words_per_area, capacity_of, row_at, area_of, legal_word, backend_of, word_of, LegalRow, Reads, rows};
 ghost use Rattle.area_list.specs.Item.{item_at};
 ghost use Rattle.area_list.specs.Position.{SortedRows};
 
@@ -36,14 +36,15 @@ pub struct Row {
 }
 
 // How many areas a table of so many words has room for.
+#[tactic(auto, unfolding(crate::specs::Layout::capacity_of))]
 pub fn capacity(words: usize) -> usize
     ensures { result ≡ capacity_of words }
 {
-    let whole = words / WORDS;
-    if whole < MAX_AREAS { whole } else { MAX_AREAS }
+    (words / WORDS).min(MAX_AREAS)
 }
 
 // The words of the area at a slot.
+#[tactic(auto, using(crate::proofs::Rows::row_words))]
 pub fn row_at(areas: &[u64], slot: usize) -> Row
     requires { words_per_area * slot + words_per_area ≤ length areas.now }
     ensures { result ≡ row_at areas.now slot }
@@ -61,19 +62,16 @@ pub fn row_at(areas: &[u64], slot: usize) -> Row
     }
 }
 
+// Whether a word stands for a backend.
 #[tactic(auto, using(crate::proofs::Rows::lazy_legal, crate::proofs::Rows::small_illegal, crate::proofs::Rows::linear_legal))]
 pub fn legal_word(word: u64) -> bool
     ensures { result ≡ legal_word word }
 {
-    if word == 0 {
-        return true;
-    }
-    if word < LINEAR {
-        return false;
-    }
-    word < LINEAR_END
+    word == 0 || (LINEAR..LINEAR_END).contains(&word)
 }
 
+// The backend that a legal word stands for. No `From`, as for `Row::area`.
+#[tactic(auto, using(crate::proofs::Rows::lazy_backend, crate::proofs::Rows::linear_backend, crate::proofs::Rows::linear_word))]
 fn backend_of(word: u64) -> Backend
     requires { legal_word word ≡ true }
     ensures { result ≡ backend_of word }
@@ -84,7 +82,8 @@ fn backend_of(word: u64) -> Backend
     Backend::Linear((word - LINEAR) as u32)
 }
 
-// The word that stands for a backend.
+// The word that stands for a backend. No `From`: it would have to stand in page_table, which knows nothing of words; no plainer.
+#[tactic(auto, unfolding(crate::specs::Layout::word_of))]
 pub fn word_of(backend: Backend) -> u64
     ensures { result ≡ word_of backend }
 {
@@ -95,7 +94,7 @@ pub fn word_of(backend: Backend) -> u64
 }
 
 impl Row {
-    // The area that legal words stand for.
+    // The area that legal words stand for. No `From`: words that are not legal stand for none; `TryFrom`, below, tests them first.
     pub fn area(self) -> Area
         requires { LegalRow self }
         ensures { result ≡ area_of self }
@@ -110,39 +109,50 @@ impl Row {
     }
 }
 
-// The area at a slot.
-pub fn area_at(areas: &[u64], count: usize, slot: usize) -> Area
-    requires sorted_rows { SortedRows areas.now count }
-    requires slot_lt_count { slot < count }
-    ensures { result ≡ get_or (rows areas.now count) slot nothing }
-{
-    row_at(areas, slot).area()
+// Words that stand for no area.
+#[derive(Clone, Copy)]
+pub struct NoArea;
+
+impl TryFrom<Row> for Area {
+    type Error = NoArea;
+
+    ghost try_from_gives = { Reads };
+
+    fn try_from(row: Row) -> Result<Area, NoArea> {
+        if row.flags > FLAGS as u64 || !legal_word(row.backend) {
+            return Err(NoArea);
+        }
+        Ok(row.area())
+    }
 }
 
-// What a slot has.
+// A list of areas, read where the caller's words lie: every slot below count has an area, and each starts no earlier than the one
+// before it ends.
 #[derive(Clone, Copy)]
-pub enum Item {
-    Some(Area),
-    None,
+pub struct Areas<'a> {
+    pub words: &'a [u64],
+    pub count: usize,
+    pub ghost sorted: { SortedRows words.now count },
+}
+
+impl<'a> Areas<'a> {
+    // The area at a slot.
+    #[tactic(auto, using(crate::proofs::Rows::rows_at))]
+    pub fn at(self, slot: usize) -> Area
+        requires { slot < self.count }
+        ensures { result ≡ get_or (rows self.entry.words.now self.entry.count) slot nothing }
+    {
+        row_at(self.words, slot).area()
+    }
 }
 
 // The area at a slot, if there is one. Whoever asks need not know that the tables are good: it looks at this slot's words alone.
-pub fn item_at(areas: &[u64], count: usize, slot: usize) -> Item
+#[tactic(auto, using(crate::proofs::Items::item_none, crate::proofs::Items::item_reads), unfolding(crate::specs::Layout::capacity_of))]
+pub fn item_at(areas: &[u64], count: usize, slot: usize) -> Option<Area>
     ensures { result ≡ item_at areas.now count slot }
 {
-    if count <= slot {
-        return Item::None;
+    if slot >= count || slot >= capacity(areas.len()) {
+        return None;
     }
-    if capacity(areas.len()) <= slot {
-        return Item::None;
-    }
-    let row = row_at(areas, slot);
-    if (FLAGS as u64) < row.flags {
-        return Item::None;
-    }
-    if !legal_word(row.backend) {
-        return Item::None;
-    }
-    let area = row.area();
-    Item::Some(area)
+    Area::try_from(row_at(areas, slot)).ok()
 }

@@ -5,6 +5,7 @@ ghost use Rattle.std.specs.Prelude.{ℕ, List};
 ghost use Rattle.std.specs.Io.KnownBytes.{Consumes};
 ghost use Rattle.stream.specs.Reading.{Fills};
 
+use little_endian::read;
 use std::io;
 use std::io::Read;
 use stream::{OUT, read_full};
@@ -28,7 +29,7 @@ fn audit_next<R: Read>(rt: &impl Print, reader: &mut R) -> io::Result<bool>
     if n < 4 {
         return Ok(false);
     }
-    let length = little_endian::word32(&size, 0) as usize;
+    let length = read::<u32>(&size, 0) as usize;
     let mut bytes = [0u8; OUT];
     if bytes.len() < length {
         return Ok(false);
@@ -39,6 +40,7 @@ fn audit_next<R: Read>(rt: &impl Print, reader: &mut R) -> io::Result<bool>
 
 fn main(rt: HostRuntime) -> io::Result<()> {
     let mut reader = rt.reader();
+    // `while audit_next(..)? {}` would say this, but it has no measure: the bytes that are left are not known.
     for _ in 0..u64::MAX {
         if !audit_next(&rt, &mut reader)? {
             break;

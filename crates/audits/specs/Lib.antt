@@ -1,2 +1,3 @@
 pub mod Audit
+pub mod Line
 pub mod Says

@@ -1,69 +1,67 @@
--- Laws of gaps: the pieces of one slot, and the whole list around a gap. Assumes nothing.
+-- Laws of gaps: what a range leaves of the areas at its ends, and the whole list around a gap. Assumes nothing.
 use Prim.Native.Nat.{ℕ, ◌+◌, ◌≤◌, ◌<◌}
-use mathlib.Core.Path.{◌≡◌, refl, sym, ◌∙◌}
+use mathlib.Core.Path.{◌≡◌, refl, sym}
 use mathlib.Core.Bool.{true, false}
 use mathlib.Core.List.{List, [], ◌∷◌, ◌++◌, append_assoc}
 use native.Mathlib.Omega.{arith}
-use native.Mathlib.Decide.{dec_le}
+use native.Mathlib.Decide.{dec_le, dec_lt}
 use native.Mathlib.Nat.{add-zero}
 use lib.ListN.{length, get_or, drop, drop_of_length-le}
+use borrow.Author.Tests.{lt-ltb, le-ltb}
+use Rattle.std.specs.Prelude.{Option, Some, None}
+use Rattle.std.specs.Option.{is_some, option_map}
 use Rattle.area.specs.Area.{part, nothing}
 use Rattle.area.specs.declared.Area.{Area}
 use Rattle.area_list.specs.Store.{spliced}
 use Rattle.slots.specs.Splice.{parts_of}
-use Rattle.slots.specs.declared.Parts.{Parts}
 use Rattle.area_list.specs.Position.{first_where, ends_past}
 use Rattle.area_list.proofs.Ordered.{Ordered}
 use Rattle.area_list.proofs.Positions.{first, ended, not_ended}
 use Rattle.effects.specs.Lists.{cut, insert}
-use Rattle.effects.proofs.Cutting.{left_of, left_yes, left_no, trimmed_here, trimmed_none, cut_is, insert_is}
-use Rattle.changes.specs.Gap.{piece_of, taken, RightOf, Cuts, Lays}
-use Rattle.changes.specs.declared.Piece.{Piece}
+use Rattle.effects.proofs.Cutting.{left_of, trimmed_here, trimmed_none, cut_is, insert_is}
+use Rattle.changes.specs.Gap.{first_before, piece_of, taken, RightOf, Cuts}
 use Rattle.changes.specs.declared.Gap.{Gap}
 use Rattle.effects.proofs.Sweeping.{from_slot}
 
-no_piece : (p : Piece) → p.some ≡ false → piece_of p ≡ []
-no_piece p e = rw e
+-- ---- the areas at the ends of the range
 
-pub none_taken : (p : Piece) → p.some ≡ false → taken p ≡ 0
-none_taken p e = rw e
+-- the area at a slot, if it starts before an address
+pub none_before : (xs : List Area) (slot address : ℕ) → length xs ≤ slot → None ≡ first_before address (drop slot xs)
+none_before xs slot address h = rw (drop_of_length-le xs h)
 
-pub one_taken : (p : Piece) → p.some ≡ true → taken p ≡ 1
-one_taken p e = rw e
+module _ (xs : List Area) (slot address : ℕ) (l : slot < length xs) (a : Area) (at : a ≡ get_or xs slot nothing) where
+  pub starts_before : a.start < address → Some a ≡ first_before address (drop slot xs)
+  starts_before h = rw (from_slot xs slot l, ← at, lt-ltb a.start address h)
 
-module _ (xs : List Area) (slot address : ℕ) where
-  -- ---- what an area has before an address
+-- what it has before the address
+before_address : (xs : List Area) (address : ℕ)
+    → piece_of (option_map (λ a. part a a.start address) (first_before address xs)) ≡ left_of address xs
+before_address [] address = refl
+before_address (a ∷ xs) address =
+    elim (dec_lt a.start address) [ yes h ↦ rw (lt-ltb a.start address h) | no h ↦ rw (le-ltb a.start address (omega arith)) ]
 
-  pub left_past : (p : Piece) → p.some ≡ false → length xs ≤ slot → piece_of p ≡ left_of address (drop slot xs)
-  left_past p e h = no_piece p e ∙ sym (rw (drop_of_length-le xs h))
-
-  module _ (a : Area) (at : a ≡ get_or xs slot nothing) (l : slot < length xs) where
-    pub left_whole : (p : Piece) → p.some ≡ false → address ≤ a.start → piece_of p ≡ left_of address (drop slot xs)
-    left_whole p e h = no_piece p e ∙ sym (rw (from_slot xs slot l, ← at) (left_no address a h))
-
-    pub left_cut : (b : Area) → b ≡ part a a.start address → a.start < address → b ∷ [] ≡ left_of address (drop slot xs)
-    left_cut b e h = rw (e, from_slot xs slot l, ← at) (sym (left_yes address a h))
-
-  -- ---- what it has from an address on
-
-  pub right_past : (p : Piece) → p.some ≡ false → length xs ≤ slot → RightOf xs slot address p
-  right_past p e h =
-      record { trims = rw (no_piece p e, none_taken p e, add-zero slot, drop_of_length-le xs h); inside = λ m. rw (none_taken p e, add-zero slot) m }
-
-  module _ (a : Area) (at : a ≡ get_or xs slot nothing) (l : slot < length xs) where
-    pub right_whole : (p : Piece) → p.some ≡ false → address ≤ a.start → RightOf xs slot address p
-    right_whole p e h =
-        record {
-          trims = rw (no_piece p e, none_taken p e, add-zero slot, from_slot xs slot l, ← at) (sym (trimmed_none address a (drop (slot + 1) xs) h));
-          inside = λ m. rw (none_taken p e, add-zero slot) m;
-        }
-
-    pub right_cut : (b : Area) → b ≡ part a address a.end → a.start < address → RightOf xs slot address (record { some = true; area = b })
-    right_cut b e h =
-        record {
-          trims = rw (e, from_slot xs slot l, ← at) (sym (trimmed_here address a (drop (slot + 1) xs) h));
-          inside = λ m. omega arith;
-        }
+-- and from there on
+from_address : (xs : List Area) (slot address : ℕ)
+    → RightOf xs slot address (option_map (λ a. part a address a.end) (first_before address (drop slot xs)))
+from_address xs slot address =
+    elim (dec_lt slot (length xs)) [
+      | no h ↦ rw (drop_of_length-le xs {i = slot} (omega arith))
+          (record { trims = rw (add-zero slot, drop_of_length-le xs {i = slot} (omega arith)); inside = λ m. rw (add-zero slot) m })
+      | yes l ↦ rw (from_slot xs slot l) (here (get_or xs slot nothing) (from_slot xs slot l) l)
+    ]
+  where
+    here : (a : Area) → drop slot xs ≡ a ∷ drop (slot + 1) xs → slot < length xs
+        → RightOf xs slot address (option_map (λ b. part b address b.end) (first_before address (a ∷ drop (slot + 1) xs)))
+    here a at l =
+        elim (dec_lt a.start address) [
+          | yes h ↦ rw (lt-ltb a.start address h)
+              (record { trims = rw at (sym (trimmed_here address a (drop (slot + 1) xs) h)); inside = λ m. omega arith })
+          | no h ↦ rw (le-ltb a.start address (omega arith))
+              (record {
+                trims = rw (add-zero slot, at) (sym (trimmed_none address a (drop (slot + 1) xs) (omega arith)));
+                inside = λ m. rw (add-zero slot) m;
+              })
+        ]
 
 -- ---- the gap
 
@@ -83,33 +81,58 @@ gap_ordered xs low high n =
     k : ℕ
     k = first_where (ends_past high) xs
 
-module _ (xs : List Area) (low high from upto : ℕ) (n : low < high) (i : from ≡ first_where (ends_past low) xs) (k : upto ≡ first_where (ends_past high) xs)
-    (left right : Piece) (l : piece_of left ≡ left_of low (drop from xs)) (r : RightOf xs upto high right) where
-  pub past_inside : upto + taken right ≤ length xs
-  past_inside = r.inside (rw k (first (ends_past high) xs).in_list)
+pub one_taken : (p : Option Area) → is_some p ≡ true → taken p ≡ 1
+one_taken p e = rw e
 
-  pub gap_is : (past : ℕ) → past ≡ upto + taken right → Cuts xs low high (record { low = from; high = past; left = left; right = right })
-  gap_is past e =
-      record {
-        low_is = i;
-        left_is = l;
-        right_is = rw (e, ← k) r.trims;
-        ordered = omega (arith, gap_ordered xs low high n);
-        inside = rw e past_inside;
-      }
+pub none_taken : (p : Option Area) → is_some p ≡ false → taken p ≡ 0
+none_taken p e = rw e
+
+module _ (xs : List Area) (high upto : ℕ) (k : upto ≡ first_where (ends_past high) xs) (right : Option Area)
+    (r : right ≡ option_map (λ a. part a high a.end) (first_before high (drop upto xs))) where
+  right_of : RightOf xs upto high right
+  right_of = rw r (from_address xs upto high)
+
+  pub past_inside : upto + taken right ≤ length xs
+  past_inside = right_of.inside (rw k (first (ends_past high) xs).in_list)
+
+pub gap_is : (xs : List Area) (low high from upto : ℕ) → low < high
+    → from ≡ first_where (ends_past low) xs → upto ≡ first_where (ends_past high) xs
+    → (left right : Option Area) → left ≡ option_map (λ a. part a a.start low) (first_before low (drop from xs))
+    → right ≡ option_map (λ a. part a high a.end) (first_before high (drop upto xs))
+    → (past : ℕ) → past ≡ upto + taken right → Cuts xs low high (record { low = from; high = past; left = left; right = right })
+gap_is xs low high from upto n i k left right l r past e =
+    record {
+      low_is = i;
+      left_is = rw l (before_address (drop from xs) low);
+      right_is = rw (e, ← k) (right_of xs high upto k right r).trims;
+      ordered = omega (arith, gap_ordered xs low high n);
+      inside = rw e (past_inside xs high upto k right r);
+    }
 
 -- ---- the list around a gap
 
-module _ {space before : ℕ} (xs : List Area) (low high : ℕ) (o : Ordered space before xs) (n : low < high) (g : Gap) (c : Cuts xs low high g) where
+-- a part that goes in before others
+first_part : (p : Option Area) (ps : List (Option Area)) → parts_of (p ∷ ps) ≡ piece_of p ++ parts_of ps
+first_part None ps = refl
+first_part (Some a) ps = refl
+
+pub both_sides : (left right : Option Area) → parts_of (left ∷ right ∷ []) ≡ piece_of left ++ piece_of right
+both_sides left right = first_part left (right ∷ [])
+
+pub sides_around : (a : Area) (left right : Option Area) → parts_of (left ∷ Some a ∷ right ∷ []) ≡ piece_of left ++ (a ∷ piece_of right)
+sides_around a left right = first_part left (Some a ∷ right ∷ [])
+
+module _ {space before : ℕ} (xs : List Area) (low high : ℕ) (o : Ordered space before xs) (n : low < high)
+    (g : Gap) (c : Cuts xs low high g) (parts : List (Option Area)) where
   -- without what the range cuts out
-  pub gap_cut : (p : Parts) → Lays p (piece_of g.left ++ piece_of g.right) → spliced xs g.low g.high (parts_of p) ≡ cut low high xs
-  gap_cut p l =
-      rw (l.areas, append_assoc (piece_of g.left) (piece_of g.right) (drop g.high xs), c.right_is, c.left_is, c.low_is)
+  pub gap_cut : parts_of parts ≡ piece_of g.left ++ piece_of g.right → spliced xs g.low g.high (parts_of parts) ≡ cut low high xs
+  gap_cut e =
+      rw (e, append_assoc (piece_of g.left) (piece_of g.right) (drop g.high xs), c.right_is, c.left_is, c.low_is)
       (sym (cut_is low high n xs o))
 
   -- with an area in its place
-  pub gap_insert : (a : Area) (p : Parts) → a.start ≡ low → Lays p (piece_of g.left ++ (a ∷ piece_of g.right))
-      → spliced xs g.low g.high (parts_of p) ≡ insert a (cut low high xs)
-  gap_insert a p e l =
-      rw (l.areas, append_assoc (piece_of g.left) (a ∷ piece_of g.right) (drop g.high xs), c.right_is, c.left_is, c.low_is)
-      (sym (insert_is low high n a e xs o))
+  pub gap_insert : (a : Area) → a.start ≡ low → parts_of parts ≡ piece_of g.left ++ (a ∷ piece_of g.right)
+      → spliced xs g.low g.high (parts_of parts) ≡ insert a (cut low high xs)
+  gap_insert a s e =
+      rw (e, append_assoc (piece_of g.left) (a ∷ piece_of g.right) (drop g.high xs), c.right_is, c.left_is, c.low_is)
+      (sym (insert_is low high n a s xs o))

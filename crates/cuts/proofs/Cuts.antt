@@ -7,13 +7,13 @@ use native.Mathlib.Decide.{dec_lt, ℕ_discrete}
 use lib.Dec.{ltb}
 use borrow.Author.Tests.{lt-ltb, le-ltb, eq-eqb, ne_eqb}
 use Rattle.page_table.specs.Limits.{page_size}
-use Rattle.area.specs.Answer.{answer, reply}
+use Rattle.area.specs.Answer.{answer, reply, Reply, number}
 use Rattle.area.specs.Area.{aligned, good_area, largest_space, part, nothing}
 use Rattle.cuts.specs.Cut.{cut_tests, cut_answer, Pair, pair, split_outcome, split_rule, shrunk_outcome, size_answer, shrink_left_rule, shrink_right_rule}
 use Rattle.area.specs.declared.Area.{Area}
-use Rattle.cuts.specs.declared.Divided.{Divided}
-use Rattle.cuts.specs.declared.Shrunk.{Shrunk}
-use Rattle.area.proofs.Answers.{reply_accepted, reply_refused, reply_answer, one_outcome}
+use Rattle.std.specs.Prelude.{Result, Ok, Err}
+use Rattle.cuts.specs.declared.Uncut.{Uncut}
+use Rattle.area.proofs.Answers.{reply_accepted, reply_refused, reply_answer, refusal_inj, refusal_some}
 use Rattle.area.proofs.Areas.{Good, Halves, good_is, part_good, halves}
 
 -- the tests in their order: each section adds that one more did not apply
@@ -99,6 +99,26 @@ module _ (a : Area) (size n old : ℕ) (o : old ≡ a.end - a.start) (e : n ≡ 
   unfolding shrink_right_rule
   right_refused z = rw (← sized) (reply_refused a n (part a a.start (a.start + size)) z)
 
+-- the same at a refusal that gives the area back
+module _ (a : Area) (u : Uncut) where
+  pub split_stops : (at : ℕ) → shrunk_outcome (Err u) ≡ reply (cut_answer a at a.start a.end) a → split_outcome (Err u) ≡ split_rule a at
+  split_stops at e = rw (ap (λ (r : Reply Area). r.value) e) (split_refused a at _ (ap (λ (r : Reply Area). r.answer) e) (refusal_some u.refusal))
+
+  module _ (size old : ℕ) (o : old ≡ a.end - a.start) (e : shrunk_outcome (Err u) ≡ reply (cut_answer a size 0 old) a) where
+    pub left_stops : shrunk_outcome (Err u) ≡ shrink_left_rule a size
+    left_stops = rw (ap (λ (r : Reply Area). r.value) e) (left_refused a size _ old o (ap (λ (r : Reply Area). r.answer) e) (refusal_some u.refusal))
+
+    pub right_stops : shrunk_outcome (Err u) ≡ shrink_right_rule a size
+    right_stops = rw (ap (λ (r : Reply Area). r.value) e) (right_refused a size _ old o (ap (λ (r : Reply Area). r.answer) e) (refusal_some u.refusal))
+
+-- and where the area can be cut
+module _ (a whole : Area) (cut low high : ℕ) (e : shrunk_outcome (Ok whole) ≡ reply (cut_answer a cut low high) a) where
+  pub whole_is : whole ≡ a
+  whole_is = ap (λ (r : Reply Area). r.value) e
+
+  pub cut_passes : 0 ≡ cut_answer a cut low high
+  cut_passes = ap (λ (r : Reply Area). r.answer) e
+
 -- ---- what an accepted split gives: two good areas, which together give each page the entry that the whole gave it
 
 pub record SplitParts (a : Area) (s : Pair) : Type 0 where
@@ -124,8 +144,22 @@ split_parts a at z =
 
 -- ---- no second outcome: the answer's number and the areas fix the result
 
-pub split_unique : (r s : Divided) → split_outcome r ≡ split_outcome s → r ≡ s
-split_unique r s e i = let u = one_outcome r.answer s.answer (pair r.left r.right) (pair s.left s.right) e in record { answer = u.answers i; left = (u.values i).left; right = (u.values i).right }
+same_uncut : {B : Type 0} (f : Area → B) (back : B → Area) → ((a : Area) → back (f a) ≡ a) → (u v : Uncut)
+    → reply (number u.refusal) (f u.area) ≡ reply (number v.refusal) (f v.area) → u ≡ v
+same_uncut f back undo u v e i =
+    record {
+      refusal = refusal_inj u.refusal v.refusal (ap (λ (r : Reply _). r.answer) e) i;
+      area = (sym (undo u.area) ∙ ap (λ (r : Reply _). back r.value) e ∙ undo v.area) i;
+    }
 
-pub shrunk_unique : (r s : Shrunk) → shrunk_outcome r ≡ shrunk_outcome s → r ≡ s
-shrunk_unique r s e i = let u = one_outcome r.answer s.answer r.area s.area e in record { answer = u.answers i; area = u.values i }
+pub split_unique : (r s : Result (Area × Area) Uncut) → split_outcome r ≡ split_outcome s → r ≡ s
+split_unique (Ok p) (Ok q) e = λ i. Ok ((e i).value.left, (e i).value.right)
+split_unique (Ok p) (Err v) e = absurd (refusal_some v.refusal (sym (ap (λ (r : Reply _). r.answer) e)))
+split_unique (Err u) (Ok q) e = absurd (refusal_some u.refusal (ap (λ (r : Reply _). r.answer) e))
+split_unique (Err u) (Err v) e = ap Err (same_uncut (λ a. pair a nothing) (λ (p : Pair). p.left) (λ a. refl) u v e)
+
+pub shrunk_unique : (r s : Result Area Uncut) → shrunk_outcome r ≡ shrunk_outcome s → r ≡ s
+shrunk_unique (Ok a) (Ok b) e = λ i. Ok (e i).value
+shrunk_unique (Ok a) (Err v) e = absurd (refusal_some v.refusal (sym (ap (λ (r : Reply _). r.answer) e)))
+shrunk_unique (Err u) (Ok b) e = absurd (refusal_some u.refusal (ap (λ (r : Reply _). r.answer) e))
+shrunk_unique (Err u) (Err v) e = ap Err (same_uncut (λ a. a) (λ a. a) (λ a. refl) u v e)

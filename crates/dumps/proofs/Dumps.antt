@@ -1,51 +1,29 @@
 -- Laws of numbers in bytes: those that lie further on, how long they are, and that what was written is read back. Assumes nothing.
-use Prim.Native.Nat.{ℕ, zero, suc, ◌+◌, ◌*◌, ◌/◌, ◌%◌, ◌^◌, ◌<◌}
+use Prim.Native.Nat.{ℕ, zero, suc, ◌+◌, ◌*◌, ◌^◌, ◌<◌}
 use mathlib.Core.Path.{◌≡◌, refl, sym, ap, ◌∙◌}
 use mathlib.Core.List.{List, [], ◌∷◌, ◌++◌, append_assoc}
-use native.Mathlib.Omega.{arith, pow_step}
+use native.Mathlib.Omega.{arith}
 use native.Mathlib.Nat.{add_assoc, mul-suc, mul-zero}
 use lib.ListN.{length, get_or, length-append}
-use lib.Seq.{get_or-append-add}
-use Rattle.little_endian.specs.Number.{number_at}
-use Rattle.dumps.specs.Dump.{numbers_at, bytes_of, all_bytes}
+use Rattle.little_endian.specs.Number.{bytes_of}
+use Rattle.little_endian.proofs.Numbers.{number_past, length_bytes, number_back}
+use Rattle.dumps.specs.Dump.{numbers_at, all_bytes}
 
 -- ---- places further on
 
-module _ (xs ys : List ℕ) where
-  number_past : (size at : ℕ) → number_at (xs ++ ys) (length xs + at) size ≡ number_at ys at size
-  unfolding number_at
-  number_past zero at = refl
-  number_past (suc size) at =
-      rw (get_or-append-add xs ys at 0, add_assoc (length xs) at 1, number_past size (at + 1))
-
-  pub numbers_past : (size n at : ℕ) → numbers_at (xs ++ ys) (length xs + at) size n ≡ numbers_at ys at size n
-  unfolding numbers_at
-  numbers_past size zero at = refl
-  numbers_past size (suc n) at =
-      rw (number_past size at, add_assoc (length xs) at size, numbers_past size n (at + size))
+pub numbers_past : (xs ys : List ℕ) (size n at : ℕ) → numbers_at (xs ++ ys) (length xs + at) size n ≡ numbers_at ys at size n
+unfolding numbers_at
+numbers_past xs ys size zero at = refl
+numbers_past xs ys size (suc n) at =
+    rw (number_past xs ys size at, add_assoc (length xs) at size, numbers_past xs ys size n (at + size))
 
 -- ---- writing, and reading it back
-
-pub length_bytes : (size n : ℕ) → length (bytes_of size n) ≡ size
-unfolding bytes_of
-length_bytes zero n = refl
-length_bytes (suc size) n = ap suc (length_bytes size (n / 256))
 
 pub length_all : (size : ℕ) (ns : List ℕ) → length (all_bytes size ns) ≡ size * length ns
 unfolding all_bytes
 length_all size [] = sym (mul-zero size)
 length_all size (n ∷ ns) =
     length-append (bytes_of size n) (all_bytes size ns) ∙ omega (arith, length_bytes size n, length_all size ns, mul-suc size (length ns))
-
--- one number that fits
-pub number_back : (size n : ℕ) (rest : List ℕ) → n < 256 ^ size → number_at (bytes_of size n ++ rest) 0 size ≡ n
-unfolding number_at bytes_of
-number_back zero n rest h = omega arith
-number_back (suc size) n rest h =
-    let few : n / 256 < 256 ^ size = omega (arith, pow_step 256 size) in
-    let next : number_at (n % 256 ∷ (bytes_of size (n / 256) ++ rest)) 1 size ≡ n / 256 =
-    number_past (n % 256 ∷ []) (bytes_of size (n / 256) ++ rest) size 0 ∙ number_back size (n / 256) rest few in
-    rw next (omega arith)
 
 -- numbers that all fit
 abbrev pub Fitting : ℕ → List ℕ → Type 0

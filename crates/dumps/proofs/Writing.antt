@@ -1,64 +1,43 @@
 -- Laws of writing a dump: a number byte by byte, numbers one after the other, and the tests. Assumes nothing.
-use Prim.Native.Nat.{ℕ, suc, ◌+◌, ◌-◌, ◌*◌, ◌/◌, ◌%◌, ◌≤◌, ◌<◌}
+use Prim.Native.Nat.{ℕ, suc, ◌+◌, ◌*◌, ◌≤◌, ◌<◌}
 use mathlib.Core.Path.{◌≡◌, refl, sym, ap, ◌∙◌}
 use mathlib.Core.Bool.{Bool, true, false, not}
-use mathlib.Core.List.{List, [], ◌∷◌, ◌++◌, append_assoc, append-nil}
+use mathlib.Core.List.{List, [], ◌∷◌, ◌++◌, append_assoc, append-nil, map, map-id}
 use native.Mathlib.Omega.{arith}
-use native.Mathlib.Nat.{sub-zero, mul-zero, mul-suc}
+use native.Mathlib.Nat.{mul-zero, mul-suc}
 use native.Mathlib.Numerals.{add-one}
 use lib.Dec.{ltb}
-use lib.ListN.{length, get_or, take, drop, set}
-use lib.Seq.{length-take-le, drop-cons, take-suc, take_all}
+use lib.ListN.{length, get_or, take}
+use lib.Seq.{length-take-le, drop-drop, take-suc, take_all}
+use borrow.Rule.Slice.PartMut.{put_mid}
 use borrow.Author.Tests.{lt-ltb, le-ltb, ltb-true, ltb-false}
 use Rattle.lists.proofs.Every.{by_test}
 use Rattle.lists.specs.Over.{over}
-use Rattle.lists.proofs.Over.{Rises, rise_begins, rise_goes_on, rise_ends, over_nothing}
-use Rattle.area.specs.Answer.{number, refuse, answer, Reply, reply}
-use Rattle.area.specs.declared.Answer.{Answer}
-use Rattle.area.proofs.Answers.{applies, passes, reply_zero, reply_suc, OneOutcome, one_outcome}
+use Rattle.lists.proofs.Over.{over_nothing}
+use Rattle.std.specs.Prelude.{Result}
+use Rattle.area.specs.Answer.{number_of, refuse, answer, Reply, reply}
+use Rattle.area.specs.declared.Refusal.{Refusal}
+use Rattle.area.proofs.Answers.{applies, passes, reply_zero, reply_suc, SameAnswer, number_inj}
 use Rattle.area_list.specs.Layout.{words_per_area}
 use Rattle.area_list.specs.Good.{good_tables}
 use Rattle.rules.specs.Change.{Tables}
-use Rattle.lines.specs.Line.{Put}
-use Rattle.lines.proofs.Lines.{puts, put_then}
-use Rattle.dumps.specs.Dump.{most_areas, most_pages, word_size, entry_size, header_size, entries_at, dump_length, bytes_of, all_bytes, dump_of}
+use Rattle.lines.specs.Line.{Put, Writes}
+use Rattle.lines.specs.declared.Out.{Out}
+use Rattle.lines.proofs.Lines.{puts, writes_then}
+use Rattle.little_endian.specs.Number.{bytes_of}
+use Rattle.little_endian.proofs.Numbers.{length_bytes}
+use Rattle.dumps.specs.Dump.{most_areas, most_pages, word_size, entry_size, header_size, entries_at, dump_length, all_bytes, dump_of}
 use Rattle.dumps.specs.Write.{write_answer, write_rule}
-use Rattle.dumps.proofs.Dumps.{length_bytes, length_all}
+use Rattle.dumps.proofs.Dumps.{length_all}
 
--- ---- one number
+-- ---- one number, in a part of the buffer
 
--- k bytes of a number are written; those that are left are the bytes of rest
-pub record Spells (out₀ : List ℕ) (at size value : ℕ) (out : List ℕ) (k rest : ℕ) : Type 0 where
-  pub rises : Rises at (bytes_of size value) k out₀ out
-  pub left : drop k (bytes_of size value) ≡ bytes_of (size - k) rest
-
-pub spells_begins : (out : List ℕ) (at size value : ℕ) → Spells out at size value out 0 value
-spells_begins out at size value = record { rises = rise_begins at (bytes_of size value) out 0 refl; left = rw (sub-zero size) }
-
-module _ {out₀ : List ℕ} {at size value : ℕ} {out : List ℕ} {k rest : ℕ} (s : Spells out₀ at size value out k rest) where
-  module _ (more : k < size) where
-    here : k < length (bytes_of size value)
-    here = omega (arith, length_bytes size value)
-
-    step : get_or (bytes_of size value) k 0 ∷ drop (suc k) (bytes_of size value) ≡ rest % 256 ∷ bytes_of (size - suc k) (rest / 256)
-    unfolding bytes_of
-    step =
-        let n : size - k ≡ suc (size - suc k) = omega arith in
-        sym (drop-cons (bytes_of size value) k 0 here) ∙ rw n at s.left
-
-    pub spells_on : at + size ≤ length out₀ → (byte : ℕ) → byte ≡ rest % 256 → Spells out₀ at size value (set out (at + k) byte) (k + 1) (rest / 256)
-    spells_on room byte e =
-        let byte-is : byte ≡ get_or (bytes_of size value) k 0 = cc step in
-        let next : drop (suc k) (bytes_of size value) ≡ bytes_of (size - suc k) (rest / 256) = cc step in
-        record {
-          rises = rise_goes_on s.rises (omega (arith, length_bytes size value)) here (k + 1) (at + k) byte (omega arith) refl byte-is;
-          left = rw (add-one k) next;
-        }
-
-  pub spells_ends : at + size ≤ length out₀ → size ≤ k → Put out₀ at (bytes_of size value) out (at + size)
-  spells_ends room h =
-      puts out₀ at (bytes_of size value) out (at + size) (omega (arith, length_bytes size value)) (rise_ends s.rises (omega (arith, length_bytes size value)))
-      (omega (arith, length_bytes size value))
+pub put_in_part : (before : List ℕ) (at k next : ℕ) (text part : List ℕ) → part ≡ text → k ≡ length text → next ≡ at + k → next ≤ length before
+    → Put before at text (put_mid at k before part) next
+unfolding over
+put_in_part before at k next text part e long past room =
+    puts before at text (put_mid at k before part) next (omega arith)
+    (rw (e, ← long, drop-drop k at before)) (omega arith)
 
 -- ---- one number after the other
 
@@ -67,36 +46,45 @@ unfolding all_bytes
 all_append size [] ys = refl
 all_append size (x ∷ xs) ys = rw (all_append size xs ys) (sym (append_assoc (bytes_of size x) (all_bytes size xs) (all_bytes size ys)))
 
--- the first k numbers are written, and next is the place after them
-pub record Lists (out₀ : List ℕ) (at size : ℕ) (ns : List ℕ) (out : List ℕ) (next k : ℕ) : Type 0 where
+-- the first k numbers are written, and the place is the one after them
+pub record Lists (out₀ : Out) (size : ℕ) (ns : List ℕ) (out : Out) (k : ℕ) : Type 0 where
   pub upto : k ≤ length ns
-  pub done : Put out₀ at (all_bytes size (take k ns)) out next
-  pub at_next : next ≡ at + size * k
+  pub done : Writes out₀ (all_bytes size (take k ns)) out
+  pub at_next : out.at ≡ out₀.at + size * k
 
-pub lists_begins : (out : List ℕ) (at size : ℕ) (ns : List ℕ) → at ≤ length out → Lists out at size ns out at 0
+pub lists_begins : (out : Out) (size : ℕ) (ns : List ℕ) → out.at ≤ length out.bytes.now → Lists out size ns out 0
 unfolding all_bytes
-lists_begins out at size ns room =
+lists_begins out size ns room =
     record {
       upto = omega arith;
-      done = puts out at [] out at (omega arith) (sym (over_nothing out at)) (omega arith);
+      done = record {
+        same = refl;
+        put = puts out.bytes.now out.at [] out.bytes.now out.at (omega arith) (sym (over_nothing out.bytes.now out.at)) (omega arith);
+      };
       at_next = omega (arith, mul-zero size);
     }
 
-module _ {out₀ : List ℕ} {at size : ℕ} {ns out : List ℕ} {next k : ℕ} (l : Lists out₀ at size ns out next k) where
-  pub lists_on : (out' : List ℕ) (next' n : ℕ) → k < length ns → n ≡ get_or ns k 0 → Put out next (bytes_of size n) out' next' → Lists out₀ at size ns out' next' (k + 1)
+module _ {out₀ : Out} {size : ℕ} {ns : List ℕ} {out : Out} {k : ℕ} (l : Lists out₀ size ns out k) where
+  pub lists_on : (out' : Out) (n : ℕ) → k < length ns → n ≡ get_or ns k 0 → Writes out (bytes_of size n) out'
+      → Lists out₀ size ns out' (k + 1)
   unfolding all_bytes
-  lists_on out' next' n more e p =
+  lists_on out' n more e w =
       let one : bytes_of size n ++ [] ≡ bytes_of size n = append-nil (bytes_of size n) in
       let all : all_bytes size (take (k + 1) ns) ≡ all_bytes size (take k ns) ++ bytes_of size n =
       rw (add-one k, take-suc ns k 0 more, all_append size (take k ns) (get_or ns k 0 ∷ []), ← e, one) in
       record {
         upto = omega arith;
-        done = rw all (put_then l.done p);
-        at_next = omega (arith, p.past, l.at_next, length_bytes size n, add-one k, mul-suc size k);
+        done = rw all (writes_then l.done w);
+        at_next = omega (arith, w.put.past, l.at_next, length_bytes size n, add-one k, mul-suc size k);
       }
 
-  pub lists_ends : length ns ≤ k → Put out₀ at (all_bytes size ns) out next
+  pub lists_ends : length ns ≤ k → Writes out₀ (all_bytes size ns) out
   lists_ends h = rw (take_all k ns h) at l.done
+
+-- words and entries are the numbers that they are
+pub put_plain : {a b : Out} (size : ℕ) (ns : List ℕ) → Writes a (all_bytes size (map (λ (n : ℕ). n) ns)) b
+    → Writes a (all_bytes size ns) b
+put_plain size ns w = rw map-id at w
 
 -- ---- the tests, one after the other
 
@@ -140,34 +128,40 @@ module _ (t : Tables) (out : List ℕ) where
             (room_decides ∙ passes 6 (ltb (length out) (dump_length t.count (length t.pages))) [] (le-ltb (length out) (dump_length t.count (length t.pages)) h))
 
 -- no second outcome
-pub dump_unique : (t : Tables) (out : List ℕ) (a b : Answer) (v w : List ℕ) → reply (number a) v ≡ write_rule t out → reply (number b) w ≡ write_rule t out
-    → OneOutcome a b v w
-dump_unique t out a b v w p q = one_outcome a b v w (p ∙ sym q)
+pub record OneOutcome (a b : Result ℕ Refusal) (v w : List ℕ) : Type 0 where
+  pub answers : SameAnswer a b
+  pub values : v ≡ w
+
+pub dump_unique : (t : Tables) (out : List ℕ) (a b : Result ℕ Refusal) (v w : List ℕ)
+    → reply (number_of a) v ≡ write_rule t out → reply (number_of b) w ≡ write_rule t out → OneOutcome a b v w
+dump_unique t out a b v w p q =
+    let e : reply (number_of a) v ≡ reply (number_of b) w = p ∙ sym q in
+    record { answers = number_inj a b (λ i. (e i).answer); values = λ i. (e i).value }
 
 -- ---- what the four parts make together
 
-module _ (t : Tables) {a b : List ℕ} {q : ℕ} (x : Put a 0 (bytes_of word_size t.count) b q) where
-  pub first_past : (q ≡ word_size) × (length b ≡ length a)
-  first_past = (x.past ∙ omega (arith, length_bytes word_size t.count), x.long)
+module _ (t : Tables) {a b : Out} (x : Writes a (bytes_of word_size t.count) b) where
+  pub first_past : (b.at ≡ a.at + word_size) × (length b.bytes.now ≡ length a.bytes.now)
+  first_past = (x.put.past ∙ omega (arith, length_bytes word_size t.count), x.put.long)
 
-  module _ {c : List ℕ} {r : ℕ} (y : Put b q (bytes_of word_size (length t.pages)) c r) where
-    pub header_past : (r ≡ header_size) × (length c ≡ length a)
-    header_past = (y.past ∙ omega (arith, first_past, length_bytes word_size (length t.pages)), y.long ∙ x.long)
+  module _ {c : Out} (y : Writes b (bytes_of word_size (length t.pages)) c) where
+    pub header_past : (c.at ≡ a.at + header_size) × (length c.bytes.now ≡ length a.bytes.now)
+    header_past = (y.put.past ∙ omega (arith, first_past, length_bytes word_size (length t.pages)), y.put.long ∙ x.put.long)
 
-    module _ (room : words_per_area * t.count ≤ length t.areas) {d : List ℕ} {s : ℕ} (z : Put c r (all_bytes word_size (take (words_per_area * t.count) t.areas)) d s) where
-      pub words_past : (s ≡ entries_at t.count) × (length d ≡ length a)
+    module _ (room : words_per_area * t.count ≤ length t.areas) {d : Out}
+        (z : Writes c (all_bytes word_size (take (words_per_area * t.count) t.areas)) d) where
+      pub words_past : (d.at ≡ a.at + entries_at t.count) × (length d.bytes.now ≡ length a.bytes.now)
       words_past = (
-        z.past
+        z.put.past
             ∙ omega (arith, header_past, length_all word_size (take (words_per_area * t.count) t.areas), length-take-le (words_per_area * t.count) t.areas room),
-        z.long ∙ y.long ∙ x.long,
+        z.put.long ∙ y.put.long ∙ x.put.long,
       )
 
-      pub all_written : {e : List ℕ} {u : ℕ} → Put d s (all_bytes entry_size t.pages) e u → e ≡ over a 0 (dump_of t)
+      pub all_written : {e : Out} → Writes d (all_bytes entry_size t.pages) e → Writes a (dump_of t) e
       unfolding dump_of all_bytes
       all_written w =
-          (put_then (put_then (put_then x y) z) w).written
-          ∙ ap (λ (l : List ℕ). over a 0 (l ++ all_bytes entry_size t.pages))
-          (append_assoc (bytes_of word_size t.count) (bytes_of word_size (length t.pages)) (all_bytes word_size (take (words_per_area * t.count) t.areas)))
+          rw (append_assoc (bytes_of word_size t.count) (bytes_of word_size (length t.pages)) (all_bytes word_size (take (words_per_area * t.count) t.areas)))
+          at (writes_then (writes_then (writes_then x y) z) w)
 
 -- ---- what is known of a dump that was written
 

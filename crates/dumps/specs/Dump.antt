@@ -1,8 +1,8 @@
 -- A dump (02, W1): "count and P as u64, the area words, then the page entries, little-endian". Laws: `proofs/Dumps.antt`,
 -- `proofs/Back.antt`. Assumes nothing.
-use Rattle.std.specs.Prelude.{ℕ, zero, suc, ◌+◌, ◌*◌, ◌/◌, ◌%◌, List, [], ◌∷◌, ◌++◌, length, take}
+use Rattle.std.specs.Prelude.{ℕ, zero, suc, ◌+◌, ◌*◌, List, [], ◌∷◌, ◌++◌, length, take}
 use Rattle.area_list.specs.Layout.{words_per_area}
-use Rattle.little_endian.specs.Number.{number_at}
+use Rattle.little_endian.specs.Number.{number_at, bytes_of}
 use Rattle.rules.specs.Change.{Tables}
 
 -- "at most 256 areas and 4,096 pages"
@@ -50,11 +50,6 @@ unfoldable pub entries_in : List ℕ → List ℕ
 entries_in bytes = numbers_at bytes (entries_at (count_in bytes)) entry_size (pages_in bytes)
 
 -- ---- writing
-
--- so many bytes of a number, the lowest first
-unfoldable pub bytes_of : ℕ → ℕ → List ℕ
-bytes_of zero n = []
-bytes_of (suc size) n = n % 256 ∷ bytes_of size (n / 256)
 
 -- numbers one after the other
 unfoldable pub all_bytes : ℕ → List ℕ → List ℕ

@@ -1,7 +1,7 @@
 -- What a loop over the slots of a range has done to the pages so far: the effect of the whole list on the pages at entry is the
 -- effect of the slots that are left on the pages now. Assumes nothing.
 use Prim.Native.Nat.{ℕ, ◌+◌, ◌/◌, ◌≤◌, ◌<◌, min, max}
-use mathlib.Core.Path.{◌≡◌, refl, sym, ◌∙◌}
+use mathlib.Core.Path.{◌≡◌, sym, ◌∙◌}
 use mathlib.Core.List.{List, [], ◌∷◌}
 use native.Mathlib.Omega.{arith}
 use native.Mathlib.Numerals.{add-one}
@@ -12,18 +12,13 @@ use Rattle.lists.proofs.Each.{length_within}
 use Rattle.page_table.specs.Limits.{page_size}
 use Rattle.area.specs.Area.{first_page, end_page, nothing}
 use Rattle.area.specs.declared.Area.{Area}
-use Rattle.area_list.specs.Position.{first_where, ends_past}
-use Rattle.area_list.proofs.Ordered.{Ordered, none_left, ordered_from, ordered_after}
+use Rattle.area_list.proofs.Ordered.{Ordered, none_left, ordered_after}
 use Rattle.effects.specs.Pages.{in_areas}
-use Rattle.effects.proofs.Paging.{none_in, one_in, from_in}
+use Rattle.effects.proofs.Paging.{none_in, one_in}
 
 pub record Swept (f : Area → ℕ → ℕ → ℕ) (list : List Area) (low high slot : ℕ) (pages₀ pages : List ℕ) : Type 0 where
   pub long : length pages ≡ length pages₀
   pub rest : in_areas f list low high pages₀ ≡ in_areas f (drop slot list) low high pages
-
-pub sweep_begins : (f : Area → ℕ → ℕ → ℕ) (list : List Area) (low high slot : ℕ) (pages : List ℕ) → slot ≡ first_where (ends_past low) list
-    → Swept f list low high slot pages pages
-sweep_begins f list low high slot pages e = record { long = refl; rest = rw e (from_in f list low high pages) }
 
 -- the list from a slot on is the area there and the list from the next slot on
 pub from_slot : (list : List Area) (slot : ℕ) → slot < length list → drop slot list ≡ get_or list slot nothing ∷ drop (slot + 1) list
@@ -53,6 +48,3 @@ module _ {f : Area → ℕ → ℕ → ℕ} {space : ℕ} {list : List Area} {lo
   -- every slot from here on starts at or past the range's end, or there is none
   pub sweep_ends : length list ≤ slot → pages ≡ in_areas f list low high pages₀
   sweep_ends h = sym (s.rest ∙ rw (drop_of_length-le list h) (none_in f {space = space} {before = high} [] low high pages none_left (omega arith)))
-
-  pub sweep_stops : (a : Area) → a ≡ get_or list slot nothing → slot < length list → high ≤ a.start → pages ≡ in_areas f list low high pages₀
-  sweep_stops a e l h = sym (s.rest ∙ none_in f (drop slot list) low high pages (ordered_from o slot l) (rw e at h))

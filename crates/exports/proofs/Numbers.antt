@@ -2,17 +2,32 @@
 -- meets a promise. Assumes nothing.
 use Prim.Native.Nat.{ℕ, zero, suc, ◌+◌, ◌≤◌}
 use mathlib.Core.Path.{◌≡◌, refl, sym, ap, ◌∙◌}
-use mathlib.Core.Bool.{false}
+use mathlib.Core.Bool.{Bool, true, false}
 use mathlib.Core.List.{List, [], ◌∷◌}
 use native.Mathlib.Omega.{arith}
 use lib.ListN.{length, get_or, take, drop}
-use Rattle.area.specs.Answer.{Reply, reply, reply_by}
+use Rattle.std.specs.Prelude.{Result, Ok, Err}
+use Rattle.std.specs.Result.{result_unwrap_or}
+use Rattle.std.specs.Int.{from_bool}
+use Rattle.area.specs.Answer.{outcome, Reply, reply, reply_by}
+use Rattle.area.specs.declared.Refusal.{Refusal}
 use Rattle.area.specs.Area.{first_page, end_page, nothing}
 use Rattle.area.specs.declared.Area.{Area}
 use Rattle.area_list.specs.Layout.{word_of}
 use Rattle.questions.specs.Question.{find_rule, entries_of, entries_rule}
 use Rattle.questions.proofs.Questions.{find_inside}
 use Rattle.exports.specs.Numbers.{in_numbers, yes_number, area_numbers, part_of}
+
+-- ---- an answer
+
+pub value_of : {A : Type 0} (refused : A) (r : Result A Refusal) → result_unwrap_or r refused ≡ (outcome refused r).value
+value_of refused (Ok value) = refl
+value_of refused (Err refusal) = refl
+
+pub yes_is : (b : Bool) → from_bool b ≡ yes_number b
+unfolding yes_number
+yes_is true = refl
+yes_is false = refl
 
 -- ---- a refusal
 

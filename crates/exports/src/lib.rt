@@ -1,5 +1,5 @@
-// The calls of the memory set for Rust and C, on numbers and slices alone; the declarations are in include/. Each returns document
-// 01's answer number and gives its other results through the `&mut` numbers, all of them 0 in a refusal.
+// The calls of the memory set for Rust and C, on numbers and slices alone; the declarations are in include/. C has no `Result`, so each
+// returns document 01's answer number and gives its other results through the `&mut` numbers, all of them 0 in a refusal.
 //
 // Each contract equates everything that a caller sees with the call's rule in the crates questions and rules, so no second outcome
 // meets it (`one_reply`, proofs/Numbers.antt).
@@ -11,6 +11,7 @@ ghost use Rattle.questions.specs.Question.{len_rule, empty_rule, overlaps_rule, 
 ghost use Rattle.rules.specs.Change.{tables, unmap_rule, clear_rule, map_rule, protect_rule};
 ghost use Rattle.exports.specs.Numbers.{in_numbers, yes_number, area_numbers, part_of, backend_from, is_yes};
 
+use area::{Area, number_of};
 use area_list::word_of;
 use page_table::{Backend, PAGE};
 
@@ -20,19 +21,12 @@ pub extern "C" fn memory_set_len(areas: &[u64], pages: &[u32], count: usize, len
     ensures { reply result len.new ≡ len_rule areas.now pages.now count }
 {
     let counted = questions::len(areas, pages, count);
-    *len = counted.len as u64;
-    let answer = counted.answer;
-    answer.number()
-}
-
-// A yes or no as a number.
-fn yes_number(yes: bool) -> u64
-    ensures { result ≡ yes_number yes }
-{
-    if yes { 1 } else { 0 }
+    *len = counted.unwrap_or(0) as u64;
+    number_of(&counted)
 }
 
 // Whether there is no area.
+#[tactic(auto, using(crate::proofs::Numbers::yes_is))]
 #[unsafe(no_mangle)]
 pub extern "C" fn memory_set_is_empty(
     areas: &[u64],
@@ -43,12 +37,12 @@ pub extern "C" fn memory_set_is_empty(
     ensures { reply result yes.new ≡ in_numbers yes_number (empty_rule areas.now pages.now count) }
 {
     let empty = questions::is_empty(areas, pages, count);
-    *yes = yes_number(empty.yes);
-    let answer = empty.answer;
-    answer.number()
+    *yes = u64::from(empty.unwrap_or(false));
+    number_of(&empty)
 }
 
 // Whether some address is in both the range and an area.
+#[tactic(auto, using(crate::proofs::Numbers::yes_is))]
 #[unsafe(no_mangle)]
 pub extern "C" fn memory_set_overlaps(
     areas: &[u64],
@@ -61,9 +55,8 @@ pub extern "C" fn memory_set_overlaps(
     ensures { reply result yes.new ≡ in_numbers yes_number (overlaps_rule areas.now pages.now count start size) }
 {
     let overlap = questions::overlaps(areas, pages, count, start, size);
-    *yes = yes_number(overlap.yes);
-    let answer = overlap.answer;
-    answer.number()
+    *yes = u64::from(overlap.unwrap_or(false));
+    number_of(&overlap)
 }
 
 // The area that holds an address, its backend as a word: 0 for lazy, 2^32 + delta for linear.
@@ -82,14 +75,12 @@ pub extern "C" fn memory_set_find(
         ≡ in_numbers area_numbers (find_rule areas.now pages.now count address) }
 {
     let found = questions::find(areas, pages, count, address);
-    let area = found.area;
+    let area = found.unwrap_or(Area::nothing());
     *start = area.start;
     *end = area.end;
     *flags = area.flags as u64;
-    let kind = area.backend;
-    *backend = word_of(kind);
-    let answer = found.answer;
-    answer.number()
+    *backend = word_of(area.backend);
+    number_of(&found)
 }
 
 // Where the entries of the area that holds an address lie in the page table: from which page on, and how many. No slice can be
@@ -107,13 +98,12 @@ pub extern "C" fn memory_set_entries(
         ≡ in_numbers part_of (find_rule areas.now pages.now count address) }
 {
     let holder = questions::find(areas, pages, count, address);
-    let area = holder.area;
+    let area = holder.unwrap_or(Area::nothing());
     let page = area.start / PAGE;
     let end = area.end / PAGE;
     *first = page;
     *number = end - page;
-    let answer = holder.answer;
-    answer.number()
+    number_of(&holder)
 }
 
 // The lowest free address for an area of a size, from a hint on and between two limits.
@@ -141,12 +131,12 @@ pub extern "C" fn memory_set_find_free_area(
         limit_end,
         align,
     );
-    *at = placed.at;
-    let answer = placed.answer;
-    answer.number()
+    *at = placed.unwrap_or(0);
+    number_of(&placed)
 }
 
-// A backend from two numbers.
+// A backend from two numbers, as C gives it; for the same reason replace is a number, and each answer.
+#[tactic(auto, unfolding(crate::specs::Numbers::backend_from))]
 fn backend_from(linear: u32, delta: u32) -> Backend
     ensures { result ≡ backend_from linear delta }
 {
@@ -184,9 +174,8 @@ pub extern "C" fn memory_set_map(
         backend,
         replace != 0,
     );
-    *count = mapped.count;
-    let answer = mapped.answer;
-    answer.number()
+    *count = mapped.unwrap_or(*count);
+    number_of(&mapped)
 }
 
 // Removes all mappings in a range.
@@ -202,9 +191,8 @@ pub extern "C" fn memory_set_unmap(
         ≡ unmap_rule areas.old pages.old count.old start size }
 {
     let unmapped = unmap::unmap(areas, pages, *count, start, size);
-    *count = unmapped.count;
-    let answer = unmapped.answer;
-    answer.number()
+    *count = unmapped.unwrap_or(*count);
+    number_of(&unmapped)
 }
 
 // Removes all areas.
@@ -214,9 +202,8 @@ pub extern "C" fn memory_set_clear(areas: &mut [u64], pages: &mut [u32], count: 
         ≡ clear_rule areas.old pages.old count.old }
 {
     let cleared = unmap::clear(areas, pages, *count);
-    *count = cleared.count;
-    let answer = cleared.answer;
-    answer.number()
+    *count = cleared.unwrap_or(*count);
+    number_of(&cleared)
 }
 
 // Changes the flags of all mappings in a range: without the clear bits, then with the set bits.
@@ -234,7 +221,6 @@ pub extern "C" fn memory_set_protect(
         ≡ protect_rule areas.old pages.old count.old start size set clear }
 {
     let flagged = protect::protect(areas, pages, *count, start, size, set, clear);
-    *count = flagged.count;
-    let answer = flagged.answer;
-    answer.number()
+    *count = flagged.unwrap_or(*count);
+    number_of(&flagged)
 }

@@ -22,7 +22,8 @@ module _ (set clear : ℕ) (a : Area) where
   changes_so h = rw (ne_eqb (new_flags set clear a.flags) a.flags h)
 
   -- the pages of an area that does not change stay
-  pub pages_same : (first end : ℕ) (pages : List ℕ) → new_flags set clear a.flags ≡ a.flags → pages ≡ within (protects_area set clear a) first end pages
+  pub pages_same : (first end : ℕ) (pages : List ℕ) → new_flags set clear a.flags ≡ a.flags
+      → pages ≡ within (protects_area set clear a) first end pages
   unfolding protects_area
   pages_same first end pages e =
       within_is (protects_area set clear a) first end pages pages refl

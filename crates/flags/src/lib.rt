@@ -11,58 +11,52 @@ ghost use Rattle.effects.specs.Lists.{new_flags};
 ghost use Rattle.effects.specs.Pages.{protects_area, protect_pages};
 
 use area::Area;
-use area_list::area_at;
+use area_list::Areas;
 use page_table::PAGE;
 use page_table::entry::FLAGS;
 use page_writes::reflag;
-use positions::first_ending_past;
-use wipes::{earlier, later};
+use wipes::Meeting;
 
-// The old flags without the clear bits, then with the set bits: a bit in both is set.
-pub fn new_flags(old: u32, set: u32, clear: u32) -> u32
-    requires { clear ≤ max_flags }
-    ensures { result ≡ new_flags set clear old }
-{
-    (old & (FLAGS - clear)) | set
+// The flags that protect sets and those that it clears. What it sets may be any number here: that it is at most 15 is asked where
+// the new flags go into the list.
+#[derive(Clone, Copy)]
+pub struct FlagChange {
+    pub set: u32,
+    pub clear: u32,
+    ghost clear_legal: { clear ≤ max_flags },
+}
+
+impl FlagChange {
+    // The old flags without the clear bits, then with the set bits: a bit in both is set.
+    #[tactic(auto, unfolding(effects::specs::Lists::new_flags))]
+    pub fn of(self, old: u32) -> u32
+        ensures { result ≡ new_flags self.set self.clear old }
+    {
+        (old & (FLAGS - self.clear)) | self.set
+    }
 }
 
 // Writes the entries of an area's pages in the range anew, with the new flags, where these are others than the old.
-fn reflag_area(pages: &mut [u32], area: Area, low: u64, high: u64, set: u32, clear: u32)
-    requires { clear ≤ max_flags }
+#[tactic(auto, using(crate::proofs::Flags::pages_same, crate::proofs::Flags::pages_anew))]
+fn reflag_area(pages: &mut [u32], area: Area, low: u64, high: u64, change: FlagChange)
     ensures { pages.new
-        ≡ within (protects_area set clear area) (max low area.start / page_size) (min high area.end / page_size) pages.old }
+        ≡ within (protects_area change.set change.clear area) (max low area.start / page_size) (min high area.end / page_size) pages.old }
 {
-    let flags = new_flags(area.flags, set, clear);
+    let flags = change.of(area.flags);
     if flags == area.flags {
         return;
     }
-    let first = (later(low, area.start) / PAGE) as usize;
-    let end = (earlier(high, area.end) / PAGE) as usize;
-    let backend = area.backend;
-    reflag(pages, first, end, flags, backend);
+    let first = (low.max(area.start) / PAGE) as usize;
+    let end = (high.min(area.end) / PAGE) as usize;
+    reflag(pages, first, end, flags, area.backend);
 }
 
-// Gives the pages that lie in areas and in the range the new flags.
-pub fn reflag_areas(
-    areas: &[u64],
-    pages: &mut [u32],
-    count: usize,
-    low: u64,
-    high: u64,
-    set: u32,
-    clear: u32,
-)
-    requires tables_good { good_tables areas.now count (length pages.old) ≡ true }
-    requires clear_legal { clear ≤ max_flags }
-    ensures { pages.new ≡ protect_pages low high set clear (rows areas.now count) pages.old }
+// Gives the pages that lie in areas and in the range the new flags. As in `wipe_areas`, what ties the list to the pages stays a clause.
+pub fn reflag_areas(areas: Areas<'_>, pages: &mut [u32], low: u64, high: u64, change: FlagChange)
+    requires { good_tables areas.words.now areas.count (length pages.old) ≡ true }
+    ensures { pages.new ≡ protect_pages low high change.set change.clear (rows areas.entry.words.now areas.entry.count) pages.old }
 {
-    let mut slot = first_ending_past(areas, count, low);
-    while slot < count {
-        let area = area_at(areas, count, slot);
-        if high <= area.start {
-            return;
-        }
-        reflag_area(pages, area, low, high, set, clear);
-        slot += 1;
+    for area in Meeting::new(areas, low, high) {
+        reflag_area(pages, area, low, high, change);
     }
 }

@@ -2,51 +2,48 @@
 // document 01's numbers in the search's own order.
 #![tactic(auto)]
 
-ghost use Rattle.std.specs.Prelude.{◌≡◌};
-ghost use Rattle.area.specs.Answer.{number};
+ghost use Rattle.std.specs.Prelude.{◌≡◌, IfOk};
+ghost use Rattle.area.specs.Answer.{number_of};
 ghost use Rattle.questions.specs.Question.{search_answer, placed_outcome, free_area_rule};
 
-use area::Answer;
-use good_tables::good;
+use area::Refusal;
+use area_list::Areas;
 use page_table::PAGE;
-use questions::Placed;
-use search::{Free, lowest_free, power_of_two};
+use questions::tables_answer;
+use search::{Wanted, lowest_free, power_of_two};
 
-// What the tests of a search answer. It alone tests InvalidParam before NotAligned.
-fn search_answer(
-    areas: &[u64],
+// What the tests of a search answer, and the list as tables_answer gives it. It alone tests InvalidParam before NotAligned.
+fn search_answer<'a>(
+    areas: &'a [u64],
     pages: &[u32],
     count: usize,
-    size: u64,
-    limit_start: u64,
-    limit_end: u64,
-    align: u64,
-) -> Answer
-    ensures { number result ≡ search_answer areas.now pages.now count size limit_start limit_end align }
+    wanted: Wanted,
+) -> Result<Areas<'a>, Refusal>
+    ensures answer { number_of result ≡ search_answer areas.now pages.now count wanted.size wanted.low wanted.high wanted.align }
+    ensures list { IfOk result (λ list. (list.words.now ≡ areas.now) × (list.count ≡ count)) }
 {
-    if !good(areas, count, pages.len()) {
-        return Answer::BadTables;
+    let list = tables_answer(areas, pages, count)?;
+    if !power_of_two(wanted.align) {
+        return Err(Refusal::InvalidParam);
     }
-    if !power_of_two(align) {
-        return Answer::InvalidParam;
+    if wanted.align < PAGE {
+        return Err(Refusal::InvalidParam);
     }
-    if align < PAGE {
-        return Answer::InvalidParam;
+    if wanted.size == 0 {
+        return Err(Refusal::InvalidParam);
     }
-    if size == 0 {
-        return Answer::InvalidParam;
+    if wanted.high < wanted.low {
+        return Err(Refusal::InvalidParam);
     }
-    if limit_end < limit_start {
-        return Answer::InvalidParam;
+    if wanted.size % wanted.align != 0 {
+        return Err(Refusal::NotAligned);
     }
-    if size % align != 0 {
-        return Answer::NotAligned;
-    }
-    Answer::Accepted
+    Ok(list)
 }
 
 // The lowest address that is a multiple of align, at least hint and limit_start, with address + size within limit_end and the
 // space, meeting no area.
+#[tactic(auto, using(questions::proofs::Questions::search_asks, questions::proofs::Questions::placed_refused), unfolding(questions::specs::Question::free_area_rule, questions::specs::Question::placed_by))]
 pub fn find_free_area(
     areas: &[u64],
     pages: &[u32],
@@ -56,28 +53,16 @@ pub fn find_free_area(
     limit_start: u64,
     limit_end: u64,
     align: u64,
-) -> Placed
+) -> Result<u64, Refusal>
     ensures { placed_outcome result ≡ free_area_rule areas.now pages.now count hint size limit_start limit_end align }
 {
-    let answer = search_answer(areas, pages, count, size, limit_start, limit_end, align);
-    if !answer.accepted() {
-        return Placed { answer, at: 0 };
-    }
-    let free = lowest_free(
-        areas,
-        count,
-        pages.len(),
+    let wanted = Wanted {
         hint,
         size,
-        limit_start,
-        limit_end,
+        low: limit_start,
+        high: limit_end,
         align,
-    );
-    match free {
-        Free::At(at) => Placed { answer, at },
-        Free::Nowhere => {
-            let answer = Answer::NotFound;
-            Placed { answer, at: 0 }
-        }
-    }
+    };
+    let list = search_answer(areas, pages, count, wanted)?;
+    lowest_free(list, pages.len(), wanted).ok_or(Refusal::NotFound)
 }

@@ -1,17 +1,19 @@
 -- Laws of lines: texts put one after another, hex digits from the last to the first, how long a line is. Assumes nothing.
-use Prim.Native.Nat.{ℕ, zero, suc, ◌+◌, ◌/◌, ◌%◌, ◌≤◌, ◌<◌}
+use Prim.Native.Nat.{ℕ, zero, suc, ◌+◌, ◌-◌, ◌/◌, ◌%◌, ◌≤◌, ◌<◌}
 use mathlib.Core.Path.{◌≡◌, refl, sym, ap, ◌∙◌}
 use mathlib.Core.List.{List, [], ◌∷◌, ◌++◌, append_assoc}
 use native.Mathlib.Omega.{arith}
 use lib.ListN.{length, get_or, take, set, length-append}
 use lib.Seq.{take_at, get_or_at, get_or-take, take-take, take_all}
+use borrow.Rule.Slice.PartMut.{put_mid, Post-is}
 use Rattle.lists.specs.Over.{over}
 use Rattle.lists.proofs.Over.{over_right, over_nothing, over_one, length_over, Falls, fall_begins, fall_goes_on, fall_ends}
 use Rattle.area.specs.Answer.{number}
-use Rattle.area.specs.declared.Answer.{Answer}
-use Rattle.area.specs.declared.Answer.TheVariants.{Accepted, BadTables, NotAligned, InvalidParam, AlreadyExists, BadState, NoRoom, NotFound}
-use Rattle.lines.specs.Line.{digit, hex, address, range_length, range_bytes, longest_line, tail_bytes, line_bytes, Put}
+use Rattle.area.specs.declared.Refusal.{Refusal}
+use Rattle.area.specs.declared.Refusal.TheVariants.{BadTables, NotAligned, InvalidParam, AlreadyExists, BadState, NoRoom, NotFound}
+use Rattle.lines.specs.Line.{digit, hex, address, range_length, range_bytes, longest_line, line_bytes, Put, Writes}
 use Rattle.lines.specs.declared.Line.{Line}
+use Rattle.lines.specs.declared.Out.{Out}
 use Rattle.lines.specs.declared.Line.TheVariants.{Ok, No, In, At, Over, Free, Bad, Cut, Area}
 
 -- ---- putting
@@ -22,12 +24,22 @@ pub puts : (before : List ℕ) (at : ℕ) (text after : List ℕ) (next : ℕ)
 puts before at text after next room e n =
     record { room = room; long = ap length e ∙ length_over before at text room; written = e; past = n }
 
+-- a part of the buffer that was given the text
+pub put_part : (before : List ℕ) (at : ℕ) (text part : List ℕ) → at + length text ≤ length before → part ≡ text
+    → Put before at text (put_mid at (at + length text - at) before part) (at + length text)
+unfolding over
+put_part before at text part room e =
+    puts before at text _ _ room (rw (e, Post-is at (at + length text) before (omega arith))) (omega arith)
+
 -- one text after another
 pub put_then : {a b c xs ys : List ℕ} {p q r : ℕ} → Put a p xs b q → Put b q ys c r → Put a p (xs ++ ys) c r
 put_then {a} {b} {c} {xs} {ys} {p} {q} {r} s t =
     puts a p (xs ++ ys) c r (omega (arith, length-append xs ys, s.past, s.long, t.room))
     (t.written ∙ rw (s.written, s.past) (over_right a p xs ys (omega (arith, s.room))))
     (omega (arith, length-append xs ys, s.past, t.past))
+
+pub writes_then : {a b c : Out} {xs ys : List ℕ} → Writes a xs b → Writes b ys c → Writes a (xs ++ ys) c
+writes_then s t = record { same = t.same ∙ s.same; put = put_then s.put t.put }
 
 -- no second outcome: the same text at the same place leaves the same bytes and the same place after it
 pub record SamePut (after after' : List ℕ) (next next' : ℕ) : Type 0 where
@@ -99,8 +111,7 @@ pub length_range : (start end : ℕ) → length (range_bytes start end) ≡ rang
 unfolding range_bytes
 length_range start end = simp (length-append, length_hex)
 
-pub number_small : (a : Answer) → number a < 10
-number_small Accepted = omega arith
+pub number_small : (a : Refusal) → number a < 10
 number_small BadTables = omega arith
 number_small NotAligned = omega arith
 number_small InvalidParam = omega arith
@@ -121,24 +132,19 @@ line_short Bad = omega arith
 line_short Cut = omega arith
 line_short (Area start end flags) = simp (length-append, length_range, length_hex) (omega arith)
 
--- ---- one line, from its head and its tail
-
-pub no_line_lem : (answer : Answer) (n k : ℕ) → n ≡ number answer → k ≡ digit n → line_bytes (No answer) ≡ 110 ∷ 111 ∷ 32 ∷ k ∷ 10 ∷ []
-unfolding line_bytes
-no_line_lem answer n k e f = rw (f, e)
+-- ---- the texts of a line, one after another
 
 -- each number is put with the byte after it
-pub put_spaced : {a b c : List ℕ} {p q r : ℕ} (start end after : ℕ)
-    → Put a p (address start ++ (32 ∷ [])) b q → Put b q (address end ++ (after ∷ [])) c r → Put a p (range_bytes start end ++ (after ∷ [])) c r
+pub writes_spaced : {a b c : Out} (start end after : ℕ)
+    → Writes a (address start ++ (32 ∷ [])) b → Writes b (address end ++ (after ∷ [])) c → Writes a (range_bytes start end ++ (after ∷ [])) c
 unfolding range_bytes
-put_spaced start end after s t = simp append_assoc (simp append_assoc at (put_then s t))
+writes_spaced start end after s t = simp append_assoc (simp append_assoc at (writes_then s t))
 
-pub put_area : {a b c : List ℕ} {p q r : ℕ} (start end flags : ℕ)
-    → Put a p (range_bytes start end ++ (32 ∷ [])) b q → Put b q (hex 1 flags ++ (10 ∷ [])) c r → Put a p (tail_bytes (Area start end flags)) c r
-unfolding tail_bytes
-put_area start end flags s t = rw append_assoc at (put_then s t)
+-- the line of a refusal, by its number's digit
+pub no_line_lem : (refusal : Refusal) (n k : ℕ) → n ≡ number refusal → k ≡ digit n → line_bytes (No refusal) ≡ 110 ∷ 111 ∷ 32 ∷ k ∷ 10 ∷ []
+unfolding line_bytes
+no_line_lem refusal n k e f = rw (f, e)
 
--- the head is in, then the tail
-pub put_tail : {a b c : List ℕ} {p q r : ℕ} (head tail : List ℕ) (line : Line) → line_bytes line ≡ head ++ tail_bytes line → Put a p head b q
-    → tail_bytes line ≡ tail → Put b q tail c r → Put a p (line_bytes line) c r
-put_tail head tail line h s e t = rw (h, e) (put_then s t)
+-- an answer's number is one digit
+pub number_digit : (a : Refusal) → digit (number a) ≡ digit (number a % 16)
+number_digit a = let e : number a ≡ number a % 16 = omega (arith, number_small a) in ap digit e

@@ -7,6 +7,7 @@ use Prim.Native.String.{String, [] as empty, ◌∷◌ as ◌then◌}
 use Rattle.lists.specs.Over.{over}
 use Rattle.area.specs.Answer.{number}
 use Rattle.lines.specs.declared.Line.{Line}
+use Rattle.lines.specs.declared.Out.{Out}
 use Rattle.lines.specs.declared.Line.TheVariants.{Ok, No, In, At, Over, Free, Bad, Cut, Area}
 
 -- the bytes of a text
@@ -53,21 +54,14 @@ line_bytes Bad = bytes "bad\n"
 line_bytes Cut = bytes "cut\n"
 line_bytes (Area start end flags) = bytes "area " ++ (range_bytes start end ++ (bytes " " ++ (hex 1 flags ++ bytes "\n")))
 
--- a line from its first address on: `S E`, `A`, `S E F`
-unfoldable pub tail_bytes : Line → List ℕ
-tail_bytes Ok = []
-tail_bytes (No answer) = []
-tail_bytes (In start end) = range_bytes start end ++ bytes "\n"
-tail_bytes (At a) = address a ++ bytes "\n"
-tail_bytes Over = []
-tail_bytes Free = []
-tail_bytes Bad = []
-tail_bytes Cut = []
-tail_bytes (Area start end flags) = range_bytes start end ++ (bytes " " ++ (hex 1 flags ++ bytes "\n"))
-
 -- bytes went into a buffer at a place, and nothing else changed
 pub record Put (before : List ℕ) (at : ℕ) (text after : List ℕ) (next : ℕ) : Type 0 where
   pub room : at + length text ≤ length before
   pub long : length after ≡ length before
   pub written : after ≡ over before at text
   pub past : next ≡ at + length text
+
+-- bytes went into the buffer at the place, which moved past them, and the buffer is the same one
+pub record Writes (before : Out) (text : List ℕ) (after : Out) : Type 0 where
+  pub same : after.bytes.ghost_name ≡ before.bytes.ghost_name
+  pub put : Put before.bytes.now before.at text after.bytes.now after.at

@@ -1,24 +1,26 @@
 // The lines of the answers, written into a buffer. Every line starts with its fixed word and ends with byte 10.
 #![tactic(auto)]
 
-ghost use Rattle.std.specs.Prelude.{◌≡◌, ◌+◌, ◌≤◌, ◌<◌, length, take, [], ◌∷◌, ◌++◌};
-ghost use Rattle.lines.specs.Line.{digit, hex, longest_line, range_length, range_bytes, tail_bytes, line_bytes, Put};
+ghost use Rattle.std.specs.Prelude.{◌≡◌, ◌+◌, ◌≤◌, ◌<◌, length, [], ◌∷◌, ◌++◌};
+ghost use Rattle.lines.specs.Line.{digit, hex, longest_line, range_length, range_bytes, line_bytes, Put, Writes};
 
-use area::Answer;
+use area::Refusal;
 
 // The most bytes that a line has.
 pub const LONGEST: usize = 41;
-// Hex digits of an address, and of flags.
+// Hex digits of an address, of flags, and of a refusal's number, which is below 10.
 const ADDRESS: usize = 16;
 
 const FLAGS: usize = 1;
+
+const NUMBER: usize = 1;
 
 #[derive(Clone, Copy)]
 pub enum Line {
     // A change was accepted.
     Ok,
     // A refusal.
-    No(Answer),
+    No(Refusal),
     // The area that was found, from start up to end.
     In(u64, u64),
     // The address that a search gave.
@@ -35,104 +37,101 @@ pub enum Line {
     Area(u64, u64, u32),
 }
 
+// The byte of a hex digit. The library's `char::from_digit` gives an `Option<char>`, which would be unwrapped and cast: no plainer.
 fn digit(value: u64) -> u8
     requires { value < 16 }
     ensures { result ≡ digit value }
 {
     if value < 10 {
-        48 + value as u8
+        b'0' + value as u8
     } else {
-        87 + value as u8
+        b'a' + (value - 10) as u8
     }
 }
 
-// A short text with spaces after it, and how many bytes it has.
+// A buffer, and the place in it from which on nothing is written yet. A method moves the place past what it writes.
 #[derive(Drop)]
-struct Text([u8; 5], usize);
+pub struct Out<'a> {
+    pub bytes: &'a mut [u8],
+    pub at: usize,
+}
 
-// The fixed words are constants: byte strings in the arms of a match make its check several times as long.
-const OK: Text = Text(*b"ok\n  ", 3);
+impl Out<'_> {
+    // The bytes of a text.
+    fn put(&mut self, text: &[u8])
+        requires { self.old.at + length text.now ≤ length self.old.bytes.now }
+        ensures { Writes self.old text.now self.new }
+    {
+        let end = self.at + text.len();
+        self.bytes[self.at..end].copy_from_slice(text);
+        self.at = end;
+    }
 
-const IN: Text = Text(*b"in   ", 3);
+    // The last so many hex digits of a number, and the byte after them.
+    fn hex(&mut self, digits: usize, value: u64, after: u8)
+        requires { self.old.at + digits < length self.old.bytes.now }
+        ensures put { Writes self.old (hex digits value ++ (after ∷ [])) self.new }
+        ensures past { self.new.at ≡ self.old.at + digits + 1 }
+    {
+        let mut rest = value;
+        for k in (0..digits).rev() {
+            self.bytes[self.at + k] = digit(rest % 16);
+            rest /= 16;
+        }
+        let end = self.at + digits;
+        self.bytes[end] = after;
+        self.at = end + 1;
+    }
 
-const AT: Text = Text(*b"at   ", 3);
+    // `S E`, and the byte after it.
+    fn range(&mut self, start: u64, end: u64, after: u8)
+        requires { self.old.at + range_length < length self.old.bytes.now }
+        ensures put { Writes self.old (range_bytes start end ++ (after ∷ [])) self.new }
+        ensures past { self.new.at ≡ self.old.at + range_length + 1 }
+    {
+        self.hex(ADDRESS, start, b' ');
+        self.hex(ADDRESS, end, after);
+    }
 
-const OVER: Text = Text(*b"over\n", 5);
-
-const FREE: Text = Text(*b"free\n", 5);
-
-const BAD: Text = Text(*b"bad\n ", 4);
-
-const CUT: Text = Text(*b"cut\n ", 4);
-
-const AREA: Text = Text(*b"area ", 5);
-
-// A line up to its first address: the whole of it where it has none.
-fn head(line: Line) -> Text
-    ensures { (line_bytes line ≡ take result.1 result.0 ++ tail_bytes line) × (result.1 ≤ 5) × (length result.0 ≡ 5) }
-{
-    match line {
-        Line::Ok => OK,
-        Line::No(answer) => Text([b'n', b'o', b' ', digit(answer.number() as u64), b'\n'], 5),
-        Line::In(_, _) => IN,
-        Line::At(_) => AT,
-        Line::Over => OVER,
-        Line::Free => FREE,
-        Line::Bad => BAD,
-        Line::Cut => CUT,
-        Line::Area(_, _, _) => AREA,
+    // The bytes of a line.
+    #[tactic(auto, unfolding(crate::specs::Line::line_bytes))]
+    fn line(&mut self, line: Line)
+        requires { self.old.at + longest_line ≤ length self.old.bytes.now }
+        ensures { Writes self.old (line_bytes line) self.new }
+    {
+        match line {
+            Line::Ok => self.put(b"ok\n"),
+            Line::No(refusal) => {
+                self.put(b"no ");
+                self.hex(NUMBER, u64::from(refusal.number()), b'\n');
+            }
+            Line::In(start, end) => {
+                self.put(b"in ");
+                self.range(start, end, b'\n');
+            }
+            Line::At(address) => {
+                self.put(b"at ");
+                self.hex(ADDRESS, address, b'\n');
+            }
+            Line::Over => self.put(b"over\n"),
+            Line::Free => self.put(b"free\n"),
+            Line::Bad => self.put(b"bad\n"),
+            Line::Cut => self.put(b"cut\n"),
+            Line::Area(start, end, flags) => {
+                self.put(b"area ");
+                self.range(start, end, b' ');
+                self.hex(FLAGS, u64::from(flags), b'\n');
+            }
+        }
     }
 }
 
-fn put(out: &mut [u8], at: usize, text: Text) -> usize
-    requires { (at + text.1 ≤ length out.old) × (text.1 ≤ 5) × (length text.0 ≡ 5) }
-    ensures { Put out.old at (take text.1 text.0) out.new result × (result ≡ at + text.1) }
-{
-    let mut k = 0;
-    while k < text.1 {
-        out[at + k] = text.0[k];
-        k += 1;
-    }
-    at + k
-}
-
-// The last so many hex digits of a number, and the byte after them.
-fn put_hex(out: &mut [u8], at: usize, digits: usize, value: u64, after: u8) -> usize
-    requires { at + digits < length out.old }
-    ensures { Put out.old at (hex digits value ++ (after ∷ [])) out.new result × (result ≡ at + digits + 1) }
-{
-    let mut k = digits;
-    let mut rest = value;
-    while 0 < k {
-        k -= 1;
-        out[at + k] = digit(rest % 16);
-        rest /= 16;
-    }
-    out[at + digits] = after;
-    at + digits + 1
-}
-
-// `S E`, and the byte after it.
-fn put_range(out: &mut [u8], at: usize, start: u64, end: u64, after: u8) -> usize
-    requires { at + range_length < length out.old }
-    ensures { Put out.old at (range_bytes start end ++ (after ∷ [])) out.new result × (result ≡ at + range_length + 1) }
-{
-    let at = put_hex(out, at, ADDRESS, start, b' ');
-    put_hex(out, at, ADDRESS, end, after)
-}
-
+// One line, and the place after it. A public function keeps its parameters: buffer and place stay two here.
 pub fn put_line(out: &mut [u8], at: usize, line: Line) -> usize
     requires { at + longest_line ≤ length out.old }
     ensures { Put out.old at (line_bytes line) out.new result }
 {
-    let at = put(out, at, head(line));
-    match line {
-        Line::In(start, end) => put_range(out, at, start, end, b'\n'),
-        Line::At(address) => put_hex(out, at, ADDRESS, address, b'\n'),
-        Line::Area(start, end, flags) => {
-            let at = put_range(out, at, start, end, b' ');
-            put_hex(out, at, FLAGS, flags as u64, b'\n')
-        }
-        Line::Ok | Line::No(_) | Line::Over | Line::Free | Line::Bad | Line::Cut => at,
-    }
+    let mut out = Out { bytes: out, at };
+    out.line(line);
+    out.at
 }

@@ -1,4 +1,5 @@
 pub mod Each
 pub mod Every
+pub mod Found
 pub mod Over
 pub mod Sweep

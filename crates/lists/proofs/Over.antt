@@ -6,8 +6,8 @@ use mathlib.Core.List.{List, [], ◌∷◌, ◌++◌, append_assoc}
 use native.Mathlib.Omega.{arith}
 use native.Mathlib.Numerals.{add-one}
 use native.Mathlib.Nat.{add-zero}
-use lib.ListN.{length, get_or, take, drop, set, replicate, length-append, length-take, length-drop, length-set, length-replicate, get_or-replicate, take-append-drop, get_or-append}
-use lib.Seq.{length-take-le, take_all, take-suc, drop-cons, drop-length, take-append-le, drop-append-add, get_or-append-add, set_split, get_or-take, get_or-drop, take-take, drop-drop, take_at, drop_at}
+use lib.ListN.{length, get_or, take, drop, set, length-append, length-take, length-drop, length-set, take-append-drop, get_or-append}
+use lib.Seq.{length-take-le, drop-cons, drop-length, take-append-le, drop-append-add, get_or-append-add, set_split, get_or-take, get_or-drop, take-take, drop-drop, take_at, drop_at}
 use Rattle.lists.specs.Over.{over}
 
 -- ---- one write
@@ -102,36 +102,6 @@ over_next ws p xs at v room e =
 
 -- ---- a list laid down word by word
 
--- from the front: its first k words lie over ws₀ from p on
-pub record Rises (p : ℕ) (xs : List ℕ) (k : ℕ) (ws₀ ws : List ℕ) : Type 0 where
-  pub upto : k ≤ length xs
-  pub long : length ws ≡ length ws₀
-  pub done : ws ≡ over ws₀ p (take k xs)
-
-pub rise_begins : (p : ℕ) (xs ws : List ℕ) (k : ℕ) → k ≡ 0 → Rises p xs k ws ws
-rise_begins p xs ws k e = record { upto = omega arith; long = refl; done = rw e (sym (over_nothing ws p)) }
-
-module _ {p : ℕ} {xs : List ℕ} {k : ℕ} {ws₀ ws : List ℕ} (s : Rises p xs k ws₀ ws) where
-  -- one word more: k' is the next k, and the word went to the place at
-  pub rise_goes_on : p + length xs ≤ length ws₀ → k < length xs → (k' at v : ℕ) → k' ≡ suc k → at ≡ p + k → v ≡ get_or xs k 0
-      → Rises p xs k' ws₀ (set ws at v)
-  rise_goes_on room more k' at v n a e =
-      let m : length (take k xs) ≡ k = length-take-le k xs s.upto in
-      let next : take k xs ++ (v ∷ []) ≡ take k' xs = rw (e, n) (sym (take-suc xs k 0 more)) in
-      record {
-        upto = omega arith;
-        long = length-set ws at v ∙ s.long;
-        done = ap (λ (ys : List ℕ). set ys at v) s.done ∙ over_next ws₀ p (take k xs) at v (omega arith) (omega arith) ∙ ap (over ws₀ p) next;
-      }
-
-  -- words that the loop has not come to are as they were
-  pub rise_ahead : p ≤ length ws₀ → (j : ℕ) → p + k ≤ j → get_or ws j 0 ≡ get_or ws₀ j 0
-  rise_ahead room j h =
-      ap (λ (xs : List ℕ). get_or xs j 0) s.done ∙ over_after ws₀ p (take k xs) room j (omega (arith, length-take k xs))
-
-  pub rise_ends : length xs ≤ k → ws ≡ over ws₀ p xs
-  rise_ends h = s.done ∙ ap (over ws₀ p) (take_all k xs h)
-
 -- from the back: its words from the kth on lie there
 pub record Falls (p : ℕ) (xs : List ℕ) (k : ℕ) (ws₀ ws : List ℕ) : Type 0 where
   pub upto : k ≤ length xs
@@ -153,50 +123,5 @@ module _ {p : ℕ} {xs : List ℕ} {k : ℕ} {ws₀ ws : List ℕ} (s : Falls p 
             ∙ rw (s.done, place, over_left ws₀ (p + j) (v ∷ []) (drop k xs) (omega (arith, s.upto))) (ap (over ws₀ (p + j)) next);
       }
 
-  pub fall_ahead : p + k ≤ length ws₀ → (j : ℕ) → j < p + k → get_or ws j 0 ≡ get_or ws₀ j 0
-  fall_ahead room j h =
-      ap (λ (xs : List ℕ). get_or xs j 0) s.done ∙ over_before ws₀ (p + k) (drop k xs) room j h
-
   pub fall_ends : k ≡ 0 → ws ≡ over ws₀ p xs
   fall_ends e = s.done ∙ rw (e, add-zero p)
-
--- ---- the list that is laid down: words of the table itself, or one word again and again
-
-module _ (ws : List ℕ) (from words : ℕ) (room : from + words ≤ length ws) where
-  length_run : length (take words (drop from ws)) ≡ words
-  length_run = length-take-le words (drop from ws) (omega (arith, length-drop from ws))
-
-  run_at : (k : ℕ) → k < words → get_or (take words (drop from ws)) k 0 ≡ get_or ws (from + k) 0
-  run_at k h = get_or-take words (drop from ws) k 0 h ∙ get_or-drop from ws k 0
-
-  -- a run of words goes down, its first word first: a word is read before the loop writes its place
-  pub moves_down : {to k : ℕ} {xs : List ℕ} → Rises to (take words (drop from ws)) k ws xs → to ≤ from → k < words
-      → Rises to (take words (drop from ws)) (k + 1) ws (set xs (to + k) (get_or xs (from + k) 0))
-  moves_down {to} {k} {xs} s down more =
-      rise_goes_on s (omega (arith, length_run)) (omega (arith, length_run)) (k + 1) (to + k) (get_or xs (from + k) 0) (omega arith) refl
-      (rise_ahead s (omega arith) (from + k) (omega arith) ∙ sym (run_at k more))
-
-  pub down_ends : {to k : ℕ} {xs : List ℕ} → Rises to (take words (drop from ws)) k ws xs → words ≤ k → xs ≡ over ws to (take words (drop from ws))
-  down_ends s h = rise_ends s (omega (arith, length_run))
-
-  -- it goes up, its last word first
-  pub up_begins : (to : ℕ) → Falls to (take words (drop from ws)) words ws ws
-  up_begins to = fall_begins to (take words (drop from ws)) ws words (sym length_run)
-
-  pub moves_up : {to k : ℕ} {xs : List ℕ} → Falls to (take words (drop from ws)) k ws xs → from ≤ to → to + words ≤ length ws → k ≤ words → (j : ℕ) → k ≡ suc j
-      → Falls to (take words (drop from ws)) j ws (set xs (to + j) (get_or xs (from + j) 0))
-  moves_up {to} {k} {xs} s up fits within j e =
-      fall_goes_on s (omega (arith, length_run)) j (get_or xs (from + j) 0) e
-      (fall_ahead s (omega arith) (from + j) (omega arith) ∙ sym (run_at j (omega arith)))
-
-module _ (from end at v : ℕ) {ws xs : List ℕ} (s : Rises from (replicate (end - from) v) (at - from) ws xs) where
-  long_enough : length (replicate (end - from) v) ≡ end - from
-  long_enough = length-replicate (end - from) v
-
-  pub repeats : end ≤ length ws → from ≤ at → at < end → Rises from (replicate (end - from) v) (at + 1 - from) ws (set xs at v)
-  repeats room past more =
-      rise_goes_on s (omega (arith, long_enough)) (omega (arith, long_enough)) (at + 1 - from) at v (omega arith) (omega arith)
-      (sym (get_or-replicate (end - from) (at - from) v 0 (omega arith)))
-
-  pub repeats_end : end ≤ at → xs ≡ over ws from (replicate (end - from) v)
-  repeats_end h = rise_ends s (omega (arith, long_enough))

@@ -1,4 +1,5 @@
 pub mod Case
 pub mod Each
 pub mod Every
+pub mod Found
 pub mod Over

@@ -1,37 +1,72 @@
 // Numbers in bytes, the lowest byte first.
 #![tactic(auto)]
 
-ghost use Rattle.std.specs.Prelude.{◌≡◌, ◌+◌, ◌^◌, ◌≤◌, ◌<◌, length};
-ghost use Rattle.little_endian.specs.Number.{number_at};
+ghost use Rattle.std.specs.Prelude.{◌≡◌, ℕ, ◌+◌, ◌≤◌, length};
+ghost use Rattle.little_endian.specs.Number.{number_at, bytes_of};
 
-pub fn byte(x: u8) -> u32
-    ensures { (result ≡ x) × (result < 256) }
-{
-    x as u32
+// A number that lies in SIZE bytes, the lowest first.
+pub trait LittleEndian: Copy {
+    // The number itself.
+    ghost number: { Self → ℕ };
+
+    ghost SIZE: { ℕ };
+
+    const SIZE: usize;
+
+    // The number in as many bytes as it has.
+    fn from_bytes(b: &[u8]) -> Self
+        requires { length b.now ≡ SIZE }
+        ensures { number result ≡ number_at b.now 0 SIZE };
+
+    // Writes the number into as many bytes as it has.
+    fn put(self, out: &mut [u8])
+        requires { length out.old ≡ SIZE }
+        ensures { out.new ≡ bytes_of SIZE (number self) };
+
+    // The number is all of the value, so the bytes say which value it is.
+    ghost all: { (x y : Self) → number x ≡ number y → x ≡ y };
 }
 
-pub fn wide(x: u32) -> u64
-    ensures { (result ≡ x) × (result < 2 ^ 32) }
-{
-    x as u64
+impl LittleEndian for u32 {
+    ghost number = { λ n. n };
+
+    ghost SIZE = { 4 };
+
+    ghost all = { λ x y e. e };
+
+    const SIZE: usize = 4;
+
+    fn from_bytes(b: &[u8]) -> u32 {
+        u32::from_le_bytes([b[0], b[1], b[2], b[3]])
+    }
+
+    fn put(self, out: &mut [u8]) {
+        out.copy_from_slice(&u32::to_le_bytes(self));
+    }
 }
 
-// The number in four bytes, the lowest first.
-pub fn word32(bytes: &[u8], at: usize) -> u32
-    requires { at + 4 ≤ length bytes.now }
-    ensures { result ≡ number_at bytes.now at 4 }
-{
-    let low = byte(bytes[at]) + 0x100 * byte(bytes[at + 1]);
-    let high = byte(bytes[at + 2]) + 0x100 * byte(bytes[at + 3]);
-    low + 0x1_0000 * high
+impl LittleEndian for u64 {
+    ghost number = { λ n. n };
+
+    ghost SIZE = { 8 };
+
+    ghost all = { λ x y e. e };
+
+    const SIZE: usize = 8;
+
+    fn from_bytes(b: &[u8]) -> u64 {
+        u64::from_le_bytes([b[0], b[1], b[2], b[3], b[4], b[5], b[6], b[7]])
+    }
+
+    fn put(self, out: &mut [u8]) {
+        out.copy_from_slice(&u64::to_le_bytes(self));
+    }
 }
 
-// The number in eight bytes, the lowest first.
-pub fn word64(bytes: &[u8], at: usize) -> u64
-    requires { at + 8 ≤ length bytes.now }
-    ensures { result ≡ number_at bytes.now at 8 }
+// The number that lies at a place.
+pub fn read<T: LittleEndian>(bytes: &[u8], at: usize) -> T
+    requires { at + T.SIZE ≤ length bytes.now }
+    ensures { T.number result ≡ number_at bytes.now at T.SIZE }
 {
-    let low = wide(word32(bytes, at));
-    let high = wide(word32(bytes, at + 4));
-    low + 0x1_0000_0000 * high
+    T::from_bytes(&bytes[at..at + T::SIZE])
 }

@@ -2,23 +2,23 @@
 // 01's numbers in 01's order.
 #![tactic(auto)]
 
-ghost use Rattle.std.specs.Prelude.{◌≡◌};
-ghost use Rattle.area.specs.Answer.{number};
+ghost use Rattle.std.specs.Prelude.{◌≡◌, IfOk};
+ghost use Rattle.area.specs.Answer.{number_of};
 ghost use Rattle.rules.specs.Change.{changed_outcome, map_first_answer, map_rule};
 
-use area::{Answer, Area};
-use area_list::capacity;
-use changes::{around, blocked, find_gap};
+use area::{Area, Refusal};
+use area_list::{Areas, capacity};
+use changes::{blocked, find_gap};
 use page_table::entry::FLAGS;
 use page_table::{Backend, PAGE};
 use page_writes::write;
 use questions::range_answer;
-use rules::Changed;
-use slots::splice;
+use slots::{number, splice};
 
-// What the tests of map before the one for room answer.
-fn map_answer(
-    areas: &[u64],
+// What the tests of map before the one for room answer, and the list that may be read where none applies.
+#[tactic(auto, using(rules::proofs::Changing::map_exits))]
+fn map_answer<'a>(
+    areas: &'a [u64],
     pages: &[u32],
     count: usize,
     start: u64,
@@ -26,27 +26,25 @@ fn map_answer(
     flags: u32,
     backend: Backend,
     replace: bool,
-) -> Answer
-    ensures { number result ≡ map_first_answer areas.now pages.now count start size flags backend replace }
+) -> Result<Areas<'a>, Refusal>
+    ensures answer { number_of result ≡ map_first_answer areas.now pages.now count start size flags backend replace }
+    ensures list { IfOk result (λ list. (list.words.now ≡ areas.now) × (list.count ≡ count)) }
 {
-    let answer = range_answer(areas, pages, count, start, size);
-    if !answer.accepted() {
-        return answer;
-    }
+    let list = range_answer(areas, pages, count, start, size)?;
     if size == 0 {
-        return Answer::InvalidParam;
+        return Err(Refusal::InvalidParam);
     }
     if FLAGS < flags {
-        return Answer::InvalidParam;
+        return Err(Refusal::InvalidParam);
     }
     let end = start + size;
-    if blocked(areas, count, start, end, replace) {
-        return Answer::AlreadyExists;
+    if blocked(list, start, end, replace) {
+        return Err(Refusal::AlreadyExists);
     }
     if !backend.fits((start / PAGE) as usize, (end / PAGE) as usize) {
-        return Answer::BadState;
+        return Err(Refusal::BadState);
     }
-    Answer::Accepted
+    Ok(list)
 }
 
 // Adds a mapping. One that replaces first removes all mappings in its range; neighbours are never joined.
@@ -59,13 +57,10 @@ pub fn map(
     flags: u32,
     backend: Backend,
     replace: bool,
-) -> Changed
-    ensures { changed_outcome result areas.new pages.new ≡ map_rule areas.old pages.old count start size flags backend replace }
+) -> Result<usize, Refusal>
+    ensures { changed_outcome count result areas.new pages.new ≡ map_rule areas.old pages.old count start size flags backend replace }
 {
-    let answer = map_answer(areas, pages, count, start, size, flags, backend, replace);
-    if !answer.accepted() {
-        return Changed { answer, count };
-    }
+    let list = map_answer(areas, pages, count, start, size, flags, backend, replace)?;
     let end = start + size;
     let area = Area {
         start,
@@ -73,18 +68,14 @@ pub fn map(
         flags,
         backend,
     };
-    let gap = find_gap(areas, count, start, end);
-    let parts = around(gap, area);
-    let grown = gap.low + parts.number + (count - gap.high);
+    let gap = find_gap(list, start, end);
+    let parts = [gap.left, Some(area), gap.right];
+    let grown = gap.low + number(&parts) + (count - gap.high);
     if capacity(areas.len()) < grown {
-        return Changed {
-            answer: Answer::NoRoom,
-            count,
-        };
+        return Err(Refusal::NoRoom);
     }
     let first = (start / PAGE) as usize;
     let past = (end / PAGE) as usize;
     write(pages, first, past, flags, backend);
-    let count = splice(areas, count, gap.low, gap.high, parts);
-    Changed { answer, count }
+    Ok(splice(areas, count, gap.low, gap.high, &parts))
 }

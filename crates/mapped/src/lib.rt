@@ -2,60 +2,29 @@
 #![tactic(auto)]
 
 ghost use Rattle.std.specs.Prelude.{◌≡◌};
-ghost use Rattle.mapped.specs.Mapped.{is_none, pages_in, mapped_outcome, mapped_rule};
+ghost use Rattle.mapped.specs.Mapped.{pages_of, mapped_outcome, mapped_rule};
 
-use area::Answer;
-use area_list::Item;
+use area::{Area, Refusal};
 use page_table::PAGE;
 use walk::Walk;
 
-// A number of pages, 0 in a refusal.
-#[derive(Clone, Copy)]
-pub struct Mapped {
-    pub answer: Answer,
-    pub pages: usize,
-}
-
-fn is_none(item: Item) -> bool
-    ensures { result ≡ is_none item }
+// The pages of an area.
+#[tactic(auto, unfolding(crate::specs::Mapped::pages_of))]
+fn pages_in(area: Area) -> usize
+    ensures { result ≡ pages_of area }
 {
-    match item {
-        Item::Some(_) => false,
-        Item::None => true,
-    }
-}
-
-fn pages_in(item: Item) -> usize
-    ensures { result ≡ pages_in item }
-{
-    match item {
-        Item::Some(area) => {
-            let first = area.start / PAGE;
-            let end = area.end / PAGE;
-            if end <= first {
-                return 0;
-            }
-            (end - first) as usize
-        }
-        Item::None => 0,
-    }
+    (area.end / PAGE).saturating_sub(area.start / PAGE) as usize
 }
 
 // The number of pages under areas.
-pub fn mapped_pages(areas: &[u64], pages: &[u32], count: usize) -> Mapped
+pub fn mapped_pages(areas: &[u64], pages: &[u32], count: usize) -> Result<usize, Refusal>
     ensures { mapped_outcome result ≡ mapped_rule areas.now pages.now count }
 {
-    let mut walk = Walk::new(areas, pages, count);
+    let walk = Walk::new(areas, pages, count);
+    walk.answer()?;
     let mut sum = 0;
-    loop {
-        let item = walk.next();
-        if is_none(item) {
-            break;
-        }
-        sum += pages_in(item);
+    for area in walk {
+        sum += pages_in(area);
     }
-    Mapped {
-        answer: walk.answer,
-        pages: sum,
-    }
+    Ok(sum)
 }

@@ -8,14 +8,18 @@ use Rattle.page_table.specs.declared.Backend.{Backend}
 use Rattle.page_table.specs.declared.Backend.TheVariants.{Lazy, Linear}
 
 -- what the test says of a page of the range
-pub frames_fit_lem : (first end delta : ℕ) → frames_fit first end delta ≡ true → (page : ℕ) → first ≤ page → page < end → linear_frame page delta < frame_limit
+pub frames_fit_lem : (first end delta : ℕ) → frames_fit first end delta ≡ true → (page : ℕ) → first ≤ page → page < end
+    → linear_frame page delta < frame_limit
 unfolding frames_fit frame_fits
-frames_fit_lem first end delta e page a b = ltb-true (linear_frame page delta) frame_limit (every_in_at (frame_fits delta) first end e page a b)
+frames_fit_lem first end delta e page a b =
+    ltb-true (linear_frame page delta) frame_limit (every_in_at (frame_fits delta) first end e page a b)
 
 -- it holds where every page's frame is legal
-pub fit_frames : (first end delta : ℕ) → ((page : ℕ) → first ≤ page → page < end → linear_frame page delta < frame_limit) → frames_fit first end delta ≡ true
+pub fit_frames : (first end delta : ℕ) → ((page : ℕ) → first ≤ page → page < end → linear_frame page delta < frame_limit)
+    → frames_fit first end delta ≡ true
 unfolding frames_fit frame_fits
-fit_frames first end delta h = every_in_all (frame_fits delta) first end (λ page a b. lt-ltb (linear_frame page delta) frame_limit (h page a b))
+fit_frames first end delta h =
+    every_in_all (frame_fits delta) first end (λ page a b. lt-ltb (linear_frame page delta) frame_limit (h page a b))
 
 -- a part of the range
 pub fits_part : (backend : Backend) (first end first' end' : ℕ) → backend_fits backend first end ≡ true → first ≤ first' → end' ≤ end
@@ -31,11 +35,13 @@ pub none_left : (page end delta : ℕ) → end ≤ page → frames_fit page end 
 unfolding frames_fit
 none_left page end delta h = every_in_none (frame_fits delta) page end h
 
-module _ (page end delta : ℕ) {frame : ℕ} (more : page < end) (e : frame ≡ linear_frame page delta) where
-  pub one_fits : frame < frame_limit → frames_fit page end delta ≡ frames_fit (page + 1) end delta
+module _ (page end delta : ℕ) (more : page < end) where
+  pub one_fits : linear_frame page delta < frame_limit → frames_fit page end delta ≡ frames_fit (page + 1) end delta
   unfolding frames_fit frame_fits
-  one_fits h = rw (every_in_more (frame_fits delta) page end more, ← e, lt-ltb frame frame_limit h)
+  one_fits h = rw (every_in_more (frame_fits delta) page end more, lt-ltb (linear_frame page delta) frame_limit h)
 
-  pub one_fails : frame_limit ≤ frame → frames_fit page end delta ≡ false
+  pub one_fails : frame_limit ≤ linear_frame page delta → frames_fit page end delta ≡ false
   unfolding frames_fit frame_fits
-  one_fails h = rw (every_in_more (frame_fits delta) page end more, ← e, le-ltb frame frame_limit h)
+  one_fails h = rw (every_in_more (frame_fits delta) page end more, le-ltb (linear_frame page delta) frame_limit h)
+
+pub ruleset page_by_page = (none_left, one_fits, one_fails)

@@ -71,7 +71,8 @@ pub lazy_frame : (flags page : ℕ) → frame_of (entry_of Lazy flags page) ≡ 
 unfolding entry_of
 lazy_frame flags page = packed_frame flags true 0 (omega arith)
 
-pub linear_frame_lem : (delta flags page : ℕ) → linear_frame page delta < frame_limit → frame_of (entry_of (Linear delta) flags page) ≡ linear_frame page delta
+pub linear_frame_lem : (delta flags page : ℕ) → linear_frame page delta < frame_limit
+    → frame_of (entry_of (Linear delta) flags page) ≡ linear_frame page delta
 unfolding entry_of
 linear_frame_lem delta flags page h = packed_frame flags false (linear_frame page delta) h
 

@@ -3,7 +3,8 @@
 //     31             8 7 6   5      4    3   0
 //    [     frame     | 0 0 | lazy | 1 | flags ]
 //
-// An unmapped page has entry 0, which no packed entry is.
+// An unmapped page has entry 0, which no packed entry is. An entry stays a bare u32, with functions and no type of its own: the lent
+// table that C passes is made of these words.
 ghost use Rattle.std.specs.Prelude.{◌≡◌};
 ghost use Rattle.page_table.specs.Entry.{packed_of, flags_of, is_mapped, is_lazy, frame_of};
 
@@ -31,6 +32,7 @@ pub fn packed(flags: u32, lazy: bool, frame: u32) -> u32
     (flags & FLAGS) | kind | (frame << FRAME_SHIFT)
 }
 
+#[tactic(auto, unfolding(crate::specs::Entry::flags_of))]
 pub fn flags(entry: u32) -> u32
     ensures { result ≡ flags_of entry }
 {
@@ -49,6 +51,7 @@ pub fn lazy(entry: u32) -> bool
     entry & LAZY != 0
 }
 
+#[tactic(auto, unfolding(crate::specs::Entry::frame_of))]
 pub fn frame(entry: u32) -> u32
     ensures { result ≡ frame_of entry }
 {

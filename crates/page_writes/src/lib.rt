@@ -2,60 +2,41 @@
 // past the table, and only the pages that the table has are touched.
 #![tactic(auto)]
 
-ghost use Rattle.std.specs.Prelude.{◌≡◌, min};
+ghost use Rattle.std.specs.Prelude.{◌≡◌, ℕ};
 ghost use Rattle.lists.specs.Each.{within};
-ghost use Rattle.page_writes.specs.Change.{writes, wipes, reflags};
+ghost use Rattle.page_writes.specs.Change.{Makes, writes, wipes, reflags};
 
-use page_table::{Backend, entry, linear_frame};
+use page_table::Backend;
 
-fn least(a: usize, b: usize) -> usize
-    ensures { result ≡ min a b }
+// Writes to every page of the table from first up to end the entry that `entry` gives it.
+fn fill<F: Fn(usize) -> u32>(pages: &mut [u32], first: usize, end: usize, entry: F)
+    requires { F.IsAlwaysCallable entry }
+    ensures { (change : ℕ → ℕ → ℕ) → Makes (F.post entry) end change → pages.new ≡ within change first end pages.old }
 {
-    if a < b { a } else { b }
-}
-
-// One entry for every page of the table from first up to end.
-fn fill(pages: &mut [u32], first: usize, end: usize, entry: u32)
-    ensures { pages.new ≡ within (λ page old. entry) first end pages.old }
-{
-    let stop = least(end, pages.len());
-    let mut page = first;
-    while page < stop {
-        pages[page] = entry;
-        page += 1;
-    }
-}
-
-// Each page's own entry for every page of the table from first up to end: frames go up by one with the page.
-fn fill_linear(pages: &mut [u32], first: usize, end: usize, flags: u32, delta: u32)
-    ensures { pages.new ≡ within (writes (Backend.Linear delta) flags) first end pages.old }
-{
-    let stop = least(end, pages.len());
-    let mut page = first;
-    while page < stop {
-        pages[page] = entry::packed(flags, false, linear_frame(page, delta));
-        page += 1;
+    for page in first..end.min(pages.len()) {
+        pages[page] = entry(page);
     }
 }
 
 // Writes the entries of an area with this backend and these flags to the pages from first up to end.
+#[tactic(auto, unfolding(crate::specs::Change::writes))]
 pub fn write(pages: &mut [u32], first: usize, end: usize, flags: u32, backend: Backend)
     ensures { pages.new ≡ within (writes backend flags) first end pages.old }
 {
-    match backend {
-        Backend::Lazy => fill(pages, first, end, entry::packed(flags, true, 0)),
-        Backend::Linear(delta) => fill_linear(pages, first, end, flags, delta),
-    }
+    fill(pages, first, end, |page| backend.entry(flags, page));
 }
 
 // Makes the pages from first up to end unmapped.
+#[tactic(auto, unfolding(crate::specs::Change::wipes))]
 pub fn wipe(pages: &mut [u32], first: usize, end: usize)
     ensures { pages.new ≡ within wipes first end pages.old }
 {
-    fill(pages, first, end, 0);
+    fill(pages, first, end, |_| 0);
 }
 
-// Gives the pages from first up to end of an area with this backend new flags: their entries are written anew.
+// Gives the pages from first up to end of an area with this backend new flags: their entries are written anew, so it is write. It
+// stays a call of its own: 01 says apart what map and what protect do to entries, and README names both.
+#[tactic(auto, unfolding(crate::specs::Change::reflags, crate::specs::Change::writes))]
 pub fn reflag(pages: &mut [u32], first: usize, end: usize, flags: u32, backend: Backend)
     ensures { pages.new ≡ within (reflags backend flags) first end pages.old }
 {

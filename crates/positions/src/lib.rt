@@ -1,76 +1,56 @@
-// Positions in the list of areas, found by binary search over the starts or the ends.
+// Positions in the list of areas, found by binary search over the starts or the ends. Where to go on from is a number, count at the end, as
+// the library's partition points are; which area holds an address is an Option.
 #![tactic(auto)]
 
 ghost use Rattle.std.specs.Prelude.{◌≡◌};
-ghost use Rattle.area_list.specs.Layout.{rows};
-ghost use Rattle.area_list.specs.Position.{SortedRows, Rising, Boundary, first_where, ends_past, starts_from, contains};
+ghost use Rattle.std.specs.Simd.{first_chunks};
+ghost use Rattle.lists.specs.Found.{found_below};
+ghost use Rattle.area_list.specs.Layout.{words_per_area, rows};
+ghost use Rattle.area_list.specs.Position.{first_where, ends_past, starts_from, contains};
 ghost use Rattle.area_list.specs.Meet.{shares_any};
 
-use area_list::{END, START, WORDS, area_at};
+use area_list::{Areas, END, START, WORDS};
 
-// The first slot whose word in a rising column is above a value, or count.
-fn first_above(areas: &[u64], count: usize, column: usize, value: u64) -> usize
-    requires { Rising areas.now count column }
-    ensures { Boundary areas.now count column value result }
+// The words of the areas, a row for each.
+fn table<'a>(areas: Areas<'a>) -> &'a [[u64; WORDS]]
+    ensures { result.now ≡ first_chunks words_per_area areas.entry.count areas.entry.words.now }
 {
-    let mut low = 0;
-    let mut high = count;
-    while low < high {
-        let middle = low + (high - low) / 2;
-        let word = areas[WORDS * middle + column];
-        if word <= value {
-            low = middle + 1;
-        } else {
-            high = middle;
-        }
-    }
-    low
+    &areas.words.as_chunks::<WORDS>().0[..areas.count]
 }
 
 // The first area that ends past an address, or count.
-pub fn first_ending_past(areas: &[u64], count: usize, address: u64) -> usize
-    requires { SortedRows areas.now count }
-    ensures { result ≡ first_where (ends_past address) (rows areas.now count) }
+pub fn first_ending_past(areas: Areas<'_>, address: u64) -> usize
+    ensures { result ≡ first_where (ends_past address) (rows areas.entry.words.now areas.entry.count) }
 {
-    first_above(areas, count, END, address)
+    table(areas).partition_point(|row| row[END] <= address)
 }
 
 // The first area that starts at or past an address, or count.
-pub fn first_starting_from(areas: &[u64], count: usize, address: u64) -> usize
-    requires { SortedRows areas.now count }
-    ensures { result ≡ first_where (starts_from address) (rows areas.now count) }
+pub fn first_starting_from(areas: Areas<'_>, address: u64) -> usize
+    ensures { result ≡ first_where (starts_from address) (rows areas.entry.words.now areas.entry.count) }
 {
-    if address == 0 {
-        return 0;
-    }
-    first_above(areas, count, START, address - 1)
+    table(areas).partition_point(|row| row[START] < address)
 }
 
-// The area that holds an address, or count.
-pub fn first_holding(areas: &[u64], count: usize, address: u64) -> usize
-    requires { SortedRows areas.now count }
-    ensures { result ≡ first_where (contains address) (rows areas.now count) }
+// The area that holds an address.
+pub fn first_holding(areas: Areas<'_>, address: u64) -> Option<usize>
+    ensures { result ≡ found_below areas.entry.count (first_where (contains address) (rows areas.entry.words.now areas.entry.count)) }
 {
-    let slot = first_ending_past(areas, count, address);
-    if count <= slot {
-        return count;
+    let slot = first_ending_past(areas, address);
+    if slot < areas.count && areas.at(slot).start <= address {
+        Some(slot)
+    } else {
+        None
     }
-    let area = area_at(areas, count, slot);
-    if area.start <= address { slot } else { count }
 }
 
 // Whether some area has an address of the range in it.
-pub fn any_overlap(areas: &[u64], count: usize, low: u64, high: u64) -> bool
-    requires { SortedRows areas.now count }
-    ensures { result ≡ shares_any low high (rows areas.now count) }
+pub fn any_overlap(areas: Areas<'_>, low: u64, high: u64) -> bool
+    ensures { result ≡ shares_any low high (rows areas.entry.words.now areas.entry.count) }
 {
     if high <= low {
         return false;
     }
-    let slot = first_ending_past(areas, count, low);
-    if count <= slot {
-        return false;
-    }
-    let area = area_at(areas, count, slot);
-    area.start < high
+    let slot = first_ending_past(areas, low);
+    slot < areas.count && areas.at(slot).start < high
 }

@@ -2,41 +2,39 @@
 // 01's numbers in 01's order.
 #![tactic(auto)]
 
-ghost use Rattle.std.specs.Prelude.{◌≡◌};
-ghost use Rattle.area.specs.Answer.{number};
+ghost use Rattle.std.specs.Prelude.{◌≡◌, IfOk};
+ghost use Rattle.area.specs.Answer.{number_of};
 ghost use Rattle.rules.specs.Change.{changed_outcome, protect_first_answer, protect_rule};
 
-use area::Answer;
-use area_list::capacity;
-use flags::reflag_areas;
+use area::Refusal;
+use area_list::{Areas, capacity};
+use flags::{FlagChange, reflag_areas};
 use page_table::entry::FLAGS;
-use protection::{extra_areas, protect_list};
+use protection::{GoodAreas, extra_areas, protect_list};
 use questions::range_answer;
-use rules::Changed;
 
-// What the tests of protect before the one for room answer.
-fn protect_answer(
-    areas: &[u64],
+// What the tests of protect before the one for room answer, and the list as range_answer gives it.
+#[tactic(auto, using(rules::proofs::Changing::protect_exits))]
+fn protect_answer<'a>(
+    areas: &'a [u64],
     pages: &[u32],
     count: usize,
     start: u64,
     size: u64,
     set: u32,
     clear: u32,
-) -> Answer
-    ensures { number result ≡ protect_first_answer areas.now pages.now count start size set clear }
+) -> Result<Areas<'a>, Refusal>
+    ensures answer { number_of result ≡ protect_first_answer areas.now pages.now count start size set clear }
+    ensures list { IfOk result (λ list. (list.words.now ≡ areas.now) × (list.count ≡ count)) }
 {
-    let answer = range_answer(areas, pages, count, start, size);
-    if !answer.accepted() {
-        return answer;
-    }
+    let list = range_answer(areas, pages, count, start, size)?;
     if FLAGS < set {
-        return Answer::InvalidParam;
+        return Err(Refusal::InvalidParam);
     }
     if FLAGS < clear {
-        return Answer::InvalidParam;
+        return Err(Refusal::InvalidParam);
     }
-    Answer::Accepted
+    Ok(list)
 }
 
 // Changes the flags of all mappings in a range: without the clear bits, then with the set bits. An area whose flags stay is
@@ -49,25 +47,19 @@ pub fn protect(
     size: u64,
     set: u32,
     clear: u32,
-) -> Changed
-    ensures { changed_outcome result areas.new pages.new ≡ protect_rule areas.old pages.old count start size set clear }
+) -> Result<usize, Refusal>
+    ensures { changed_outcome count result areas.new pages.new ≡ protect_rule areas.old pages.old count start size set clear }
 {
-    let answer = protect_answer(areas, pages, count, start, size, set, clear);
-    if !answer.accepted() {
-        return Changed { answer, count };
-    }
+    let list = protect_answer(areas, pages, count, start, size, set, clear)?;
     if size == 0 {
-        return Changed { answer, count };
+        return Ok(count);
     }
     let end = start + size;
-    let more = count + extra_areas(areas, count, start, end, set, clear);
+    let change = FlagChange { set, clear };
+    let more = count + extra_areas(GoodAreas { list }, start, end, change);
     if capacity(areas.len()) < more {
-        return Changed {
-            answer: Answer::NoRoom,
-            count,
-        };
+        return Err(Refusal::NoRoom);
     }
-    reflag_areas(areas, pages, count, start, end, set, clear);
-    let count = protect_list(areas, count, start, end, set, clear);
-    Changed { answer, count }
+    reflag_areas(list, pages, start, end, change);
+    Ok(protect_list(areas, count, start, end, change))
 }

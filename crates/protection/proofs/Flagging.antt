@@ -96,7 +96,7 @@ flagging_begins low high set clear count slot ws good e =
 -- one slot gives way to one area
 pub flag_gap : (ws : List ℕ) (count slot : ℕ) → good_tables ws count max_pages ≡ true → slot < count → Gap (length ws) count slot (slot + 1) 1
 flag_gap ws count slot good l =
-    record { ordered = omega arith; inside = omega arith; few = omega arith; fits = omega (arith, (tables ws count good).count_few) }
+    record { ordered = omega arith; inside = omega arith; fits = omega (arith, (tables ws count good).count_few) }
 
 module _ {low high set-bits clear count slot : ℕ} {ws₀ ws : List ℕ} (f : Flagging low high set-bits clear count slot ws₀ ws) where
   module _ (s : set-bits ≤ max_flags) (l : slot < count) where

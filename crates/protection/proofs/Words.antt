@@ -91,7 +91,7 @@ module _ (set clear at : ℕ) (ws : List ℕ) (count : ℕ) (good : good_tables 
         ∙ ap (λ (n : ℕ). n + 1) (length_rows ws count)
 
     pub split_gap : length split ≤ capacity_of (length ws) → Gap (length ws) count slot (slot + 1) 2
-    split_gap h = record { ordered = omega arith; inside = omega arith; few = omega arith; fits = omega (arith, one_longer) }
+    split_gap h = record { ordered = omega arith; inside = omega arith; fits = omega (arith, one_longer) }
 
     pub one_split : {r : ℕ} {ws' : List ℕ} (a left right : Area) → a ≡ get_or (rows ws count) slot nothing
         → left ≡ part a a.start at → right ≡ part a at a.end

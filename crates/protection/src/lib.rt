@@ -1,7 +1,9 @@
 // The work of protect on the list, for good tables and arguments that have been tested: how it splits areas and flags them.
+// The range stays two numbers, low and high, as in the work of the other calls: most uses name one end of it alone, and a struct for both
+// would be taken apart at each.
 #![tactic(auto)]
 
-ghost use Rattle.std.specs.Prelude.{◌≡◌, true, map, ◌+◌, ◌≤◌, ◌<◌, length};
+ghost use Rattle.std.specs.Prelude.{◌≡◌, true, map, ◌+◌, ◌≤◌, ◌<◌, length, MatchOption};
 ghost use Rattle.page_table.specs.Limits.{max_pages, max_flags};
 ghost use Rattle.area_list.specs.Layout.{capacity_of, rows};
 ghost use Rattle.area_list.specs.Good.{good_tables};
@@ -12,57 +14,65 @@ ghost use Rattle.effects.proofs.Protecting.{cuts_at, split_at, flagged};
 ghost use Rattle.protection.specs.Range.{ProtectRange};
 
 use area::Area;
-use area_list::area_at;
-use flags::new_flags;
+use area_list::Areas;
+use flags::FlagChange;
 use positions::first_ending_past;
-use slots::{Parts, splice};
+use slots::splice;
 
-// The slot of the area that protect splits at an end of its range, or count: the end lies strictly inside and the flags
+// A list whose tables are good with the most pages there may be: no two of its areas share an address.
+#[derive(Clone, Copy)]
+pub struct GoodAreas<'a> {
+    pub list: Areas<'a>,
+    pub ghost good: { good_tables list.words.now list.count max_pages ≡ true },
+}
+
+// The slot of the area that protect splits at an end of its range, if there is one: the end lies strictly inside and the flags
 // change.
 //
 //        address
 // [ area    |    ]
-fn cut_slot(areas: &[u64], count: usize, address: u64, set: u32, clear: u32) -> usize
-    requires tables_good { good_tables areas.now count max_pages ≡ true }
-    requires clear_legal { clear ≤ max_flags }
-    ensures { result ≡ first_where (cuts_at set clear address) (rows areas.now count) }
+fn cut_slot(areas: GoodAreas<'_>, address: u64, change: FlagChange) -> Option<usize>
+    ensures { MatchOption result
+        (areas.entry.list.count
+        ≡ first_where (cuts_at change.set change.clear address) (rows areas.entry.list.words.now areas.entry.list.count))
+        (λ slot. (slot < areas.entry.list.count)
+        × (slot ≡ first_where (cuts_at change.set change.clear address) (rows areas.entry.list.words.now areas.entry.list.count))) }
 {
-    let slot = first_ending_past(areas, count, address);
-    if count <= slot {
-        return count;
+    let slot = first_ending_past(areas.list, address);
+    if areas.list.count <= slot {
+        return None;
     }
-    let area = area_at(areas, count, slot);
+    let area = areas.list.at(slot);
     if address <= area.start {
-        return count;
+        return None;
     }
-    if new_flags(area.flags, set, clear) == area.flags {
-        return count;
+    if change.of(area.flags) == area.flags {
+        return None;
     }
-    slot
+    Some(slot)
 }
 
 // How many areas more the list gets from a split at one end of the range.
-fn extra_at(areas: &[u64], count: usize, address: u64, set: u32, clear: u32) -> usize
-    requires tables_good { good_tables areas.now count max_pages ≡ true }
-    requires clear_legal { clear ≤ max_flags }
-    ensures { (length (split_at set clear address (rows areas.now count)) ≡ count + result) × (result ≤ 1) }
+fn extra_at(areas: GoodAreas<'_>, address: u64, change: FlagChange) -> usize
+    ensures { (length (split_at change.set change.clear address (rows areas.entry.list.words.now areas.entry.list.count))
+        ≡ areas.entry.list.count + result)
+        × (result ≤ 1) }
 {
-    if cut_slot(areas, count, address, set, clear) < count {
-        1
-    } else {
-        0
+    match cut_slot(areas, address, change) {
+        Some(_) => 1,
+        None => 0,
     }
 }
 
 // How many areas more the list gets: one for each end of the range that splits an area.
-pub fn extra_areas(areas: &[u64], count: usize, low: u64, high: u64, set: u32, clear: u32) -> usize
-    requires tables_good { good_tables areas.now count max_pages ≡ true }
-    requires low_lt_high { low < high }
-    requires clear_legal { clear ≤ max_flags }
-    ensures { (length (protect low high set clear (rows areas.now count)) ≡ count + result) × (result ≤ 2) }
+pub fn extra_areas(areas: GoodAreas<'_>, low: u64, high: u64, change: FlagChange) -> usize
+    requires { low < high }
+    ensures { (length (protect low high change.set change.clear (rows areas.entry.list.words.now areas.entry.list.count))
+        ≡ areas.entry.list.count + result)
+        × (result ≤ 2) }
 {
-    let left = extra_at(areas, count, low, set, clear);
-    let right = extra_at(areas, count, high, set, clear);
+    let left = extra_at(areas, low, change);
+    let right = extra_at(areas, high, change);
     left + right
 }
 
@@ -70,76 +80,68 @@ pub fn extra_areas(areas: &[u64], count: usize, low: u64, high: u64, set: u32, c
 //
 //        address
 // [ left    | right ]
-fn split_at(areas: &mut [u64], count: usize, address: u64, set: u32, clear: u32) -> usize
+//
+// Here and below what GoodAreas says stays a `requires`. A struct of the `&mut [u64]`, the count and this fact was tried and is no
+// plainer: each of the three then also ensures that its field is still the caller's slice (`table.new.words.ghost_name ≡ ..`), and
+// split_at has to ask for an aligned address, since it must leave the tables good itself.
+fn split_at(areas: &mut [u64], count: usize, address: u64, change: FlagChange) -> usize
     requires tables_good { good_tables areas.old count max_pages ≡ true }
-    requires clear_legal { clear ≤ max_flags }
-    requires count_len_bound { length (split_at set clear address (rows areas.old count)) ≤ capacity_of (length areas.old) }
-    ensures { (result ≡ length (split_at set clear address (rows areas.old count)))
-        × (areas.new ≡ store (split_at set clear address (rows areas.old count)) areas.old count) }
+    requires count_len_bound { length (split_at change.set change.clear address (rows areas.old count)) ≤ capacity_of (length areas.old) }
+    ensures { (result ≡ length (split_at change.set change.clear address (rows areas.old count)))
+        × (areas.new ≡ store (split_at change.set change.clear address (rows areas.old count)) areas.old count) }
 {
-    let slot = cut_slot(areas, count, address, set, clear);
-    if count <= slot {
+    let list = Areas {
+        words: areas,
+        count,
+    };
+    let Some(slot) = cut_slot(GoodAreas { list }, address, change) else {
         return count;
-    }
-    let area = area_at(areas, count, slot);
+    };
+    let area = list.at(slot);
     let left = area.part(area.start, address);
     let right = area.part(address, area.end);
-    let none = Area::nothing();
-    let parts = Parts {
-        number: 2,
-        first: left,
-        second: right,
-        third: none,
-    };
-    splice(areas, count, slot, slot + 1, parts)
+    splice(areas, count, slot, slot + 1, &[Some(left), Some(right)])
 }
 
 // An area of the split list as protect leaves it: one that lies in the range gets the new flags. Any other stays: it has no
 // address in the range, or it was not split at the range's end because its flags do not change.
-fn flagged_area(area: Area, low: u64, high: u64, set: u32, clear: u32) -> Area
-    requires { clear ≤ max_flags }
-    ensures { result ≡ flagged low high set clear area }
+#[tactic(auto, unfolding(effects::proofs::Protecting::flagged))]
+fn flagged_area(area: Area, low: u64, high: u64, change: FlagChange) -> Area
+    ensures { result ≡ flagged low high change.set change.clear area }
 {
-    if area.start < low {
-        return area;
-    }
-    if high < area.end {
-        return area;
-    }
-    let flags = new_flags(area.flags, set, clear);
-    let backend = area.backend;
-    Area {
-        start: area.start,
-        end: area.end,
-        flags,
-        backend,
+    if low <= area.start && area.end <= high {
+        Area {
+            flags: change.of(area.flags),
+            ..area
+        }
+    } else {
+        area
     }
 }
 
-// Gives the areas of the split list that lie in the range the new flags: each takes its own slot again, so no tail moves.
-fn flag_inside(areas: &mut [u64], count: usize, low: u64, high: u64, set: u32, clear: u32)
+// Gives the areas of the split list that lie in the range the new flags: each takes its own slot again, so no tail moves. It goes by
+// slot, since it writes the table that `wipes::Meeting` would borrow.
+fn flag_inside(areas: &mut [u64], count: usize, low: u64, high: u64, change: FlagChange)
     requires tables_good { good_tables areas.old count max_pages ≡ true }
-    requires set_legal { set ≤ max_flags }
-    requires clear_legal { clear ≤ max_flags }
+    requires set_legal { change.set ≤ max_flags }
     ensures { areas.new
-        ≡ store (map (flagged low high set clear) (rows areas.old count)) areas.old count }
+        ≡ store (map (flagged low high change.set change.clear) (rows areas.old count)) areas.old count }
 {
-    let mut slot = first_ending_past(areas, count, low);
-    while slot < count {
-        let area = area_at(areas, count, slot);
-        if high <= area.start {
-            return;
-        }
-        let new = flagged_area(area, low, high, set, clear);
-        let none = Area::nothing();
-        let parts = Parts {
-            number: 1,
-            first: new,
-            second: none,
-            third: none,
+    let entry = Areas {
+        words: areas,
+        count,
+    };
+    for slot in first_ending_past(entry, low)..count {
+        let list = Areas {
+            words: areas,
+            count,
         };
-        splice(areas, count, slot, slot + 1, parts);
-        slot += 1;
+        let area = list.at(slot);
+        if high <= area.start {
+            break;
+        }
+        let new = flagged_area(area, low, high, change);
+        splice(areas, count, slot, slot + 1, &[Some(new)]);
     }
 }
 
@@ -153,17 +155,16 @@ pub fn protect_list(
     count: usize,
     low: u64,
     high: u64,
-    set: u32,
-    clear: u32,
+    change: FlagChange,
 ) -> usize
     requires tables_good { good_tables areas.old count max_pages ≡ true }
-    requires protect_range { ProtectRange low high set clear }
-    requires count_len_bound { length (protect low high set clear (rows areas.old count)) ≤ capacity_of (length areas.old) }
-    ensures { (result ≡ length (protect low high set clear (rows areas.old count)))
-        × (areas.new ≡ store (protect low high set clear (rows areas.old count)) areas.old count) }
+    requires protect_range { ProtectRange low high change.set change.clear }
+    requires count_len_bound { length (protect low high change.set change.clear (rows areas.old count)) ≤ capacity_of (length areas.old) }
+    ensures { (result ≡ length (protect low high change.set change.clear (rows areas.old count)))
+        × (areas.new ≡ store (protect low high change.set change.clear (rows areas.old count)) areas.old count) }
 {
-    let more = split_at(areas, count, high, set, clear);
-    let all = split_at(areas, more, low, set, clear);
-    flag_inside(areas, all, low, high, set, clear);
+    let more = split_at(areas, count, high, change);
+    let all = split_at(areas, more, low, change);
+    flag_inside(areas, all, low, high, change);
     all
 }

@@ -1,6 +1,7 @@
 -- Laws of the tests that calls have in common: each answer from its test, and what passing them tells. Assumes nothing.
 use Prim.Native.Nat.{ℕ, ◌+◌, ◌%◌, ◌≤◌, ◌<◌}
-use mathlib.Core.Path.{◌≡◌, refl}
+use mathlib.Core.Path.{◌≡◌, refl, sym, ◌∙◌}
+use Rattle.lists.proofs.Every.{by_test}
 use mathlib.Core.Bool.{Bool, true, false, and-false}
 use mathlib.Core.List.{List, [], ◌∷◌, ◌++◌}
 use native.Mathlib.Omega.{arith}
@@ -60,12 +61,21 @@ module _ (areas pages : List ℕ) (count : ℕ) where
   unfolding tables_answer answer
   tables_good g = rw g
 
+  pub tables_passed : tables_answer areas pages count ≡ 0 → good_tables areas count (length pages) ≡ true
+  tables_passed z = by_test (good_tables areas count (length pages)) (λ g. g) (λ g. absurd (let e : tables_answer areas pages count ≡ 1 = tables_bad g in omega arith))
+
 -- ---- calls on a range: each section adds that one more test did not apply
 
 module _ (areas pages : List ℕ) (count start size : ℕ) where
   pub range_bad : good_tables areas count (length pages) ≡ false → range_answer areas pages count start size ≡ 1
   unfolding range_answer answer
   range_bad g = rw g
+
+  -- tables that are refused are refused first
+  pub range_first : (tables_answer areas pages count ≡ 0 → ⊥) → tables_answer areas pages count ≡ range_answer areas pages count start size
+  range_first h =
+      by_test (good_tables areas count (length pages)) (λ g. absurd (h (tables_good areas pages count g)))
+      (λ g. tables_bad areas pages count g ∙ sym (range_bad g))
 
   module _ (g : good_tables areas count (length pages) ≡ true) where
     pub start_unaligned : (start % page_size ≡ 0 → ⊥) → range_answer areas pages count start size ≡ 2

@@ -1,7 +1,7 @@
 -- Laws of the questions: the outcomes of find and of the search at each answer, what overlaps says, which area and entries are
 -- found, and that no second result has a rule's outcome. Assumes nothing.
 use Prim.Native.Nat.{ℕ, zero, suc, ◌+◌, ◌-◌, ◌%◌, ◌≤◌, ◌<◌, max}
-use mathlib.Core.Path.{◌≡◌, refl, sym}
+use mathlib.Core.Path.{◌≡◌, refl, sym, ap, ◌∙◌}
 use mathlib.Core.Logic.{◌↔◌}
 use mathlib.Core.Bool.{Bool, true, false, true≢false}
 use mathlib.Core.List.{List, [], ◌∷◌}
@@ -11,7 +11,7 @@ use lib.ListN.{length, get_or, length-take, length-drop}
 use borrow.Author.Tests.{le-leb, lt-leb, lt-ltb, le-ltb, eq-eqb, ne_eqb}
 use Rattle.lists.proofs.Every.{by_test}
 use Rattle.page_table.specs.Limits.{page_size}
-use Rattle.area.specs.Answer.{answer, reply, reply_by}
+use Rattle.area.specs.Answer.{answer, Reply, reply, reply_by}
 use Rattle.area.specs.Area.{first_page, end_page, nothing}
 use Rattle.area.specs.declared.Area.{Area}
 use Rattle.area.proofs.Answers.{reply_zero, reply_suc, reply_refused, one_outcome}
@@ -23,15 +23,12 @@ use Rattle.area_list.proofs.Goodness.{tables_are}
 use Rattle.area_list.proofs.Ordered.{good_at}
 use Rattle.area_list.proofs.Rows.{length_rows}
 use Rattle.area_list.proofs.Meets.{Common, shares_common, common_shares, shares_nothing, any_yes, any_no}
-use Rattle.search.specs.Free.{is_power_of_two, LegalSearch, asked, FreeOutcome, free_outcome, free_rule}
-use Rattle.search.specs.declared.Free.{Free}
-use Rattle.search.specs.declared.Free.TheVariants.{At, Nowhere}
-use Rattle.questions.specs.Tests.{range_answer}
+use Rattle.search.specs.Free.{is_power_of_two, LegalSearch, asked, FreeOutcome, free_rule}
+use Rattle.questions.specs.Tests.{tables_answer, range_answer}
+use Rattle.questions.proofs.Answering.{tables_bad, tables_good}
 use Rattle.questions.specs.Question.{len_outcome, told_outcome, overlaps_rule, found_outcome, holder, find_answer, find_rule, entries_of, entries_rule, search_tests, search_answer, placed_outcome, placed_by, free_area_rule}
-use Rattle.questions.specs.declared.Counted.{Counted}
-use Rattle.questions.specs.declared.Told.{Told}
-use Rattle.questions.specs.declared.Found.{Found}
-use Rattle.questions.specs.declared.Placed.{Placed}
+use Rattle.std.specs.Prelude.{Result, Ok, Err}
+use Rattle.area.specs.declared.Refusal.{Refusal}
 
 -- ---- overlaps: yes exactly when some address is in both the range and an area
 
@@ -87,6 +84,12 @@ module _ (areas pages : List ℕ) (count address : ℕ) where
   unfolding find_answer answer
   find_some g h = rw (g, lt-leb count (holder (rows areas count) address) h)
 
+  -- tables that are refused are refused first
+  pub find_first : {k : ℕ} → k ≡ tables_answer areas pages count → (k ≡ 0 → ⊥) → k ≡ find_answer areas pages count address
+  find_first e h =
+      by_test (good_tables areas count (length pages)) (λ g. absurd (h (e ∙ tables_good areas pages count g)))
+      (λ g. e ∙ tables_bad areas pages count g ∙ sym (find_bad g))
+
   -- ---- the outcome at each answer
 
   pub found_bad : (a : Area) → a ≡ nothing → good_tables areas count (length pages) ≡ false → reply 1 a ≡ find_rule areas pages count address
@@ -101,6 +104,14 @@ module _ (areas pages : List ℕ) (count address : ℕ) where
     pub found_at : (a : Area) → a ≡ get_or (rows areas count) slot nothing → slot < count → reply 0 a ≡ find_rule areas pages count address
     unfolding find_rule holder
     found_at a z h = rw (z, e) (reply_zero nothing (find_answer areas pages count address) (get_or (rows areas count) (holder (rows areas count) address) nothing) (find_some g (rw e at h)))
+
+-- the value of find's answer, where it is found and where it is refused
+module _ (areas pages : List ℕ) (count address : ℕ) (r : Result Area Refusal) (e : found_outcome r ≡ find_rule areas pages count address) where
+  pub found_value : {a : Area} → r ≡ Ok a → (find_rule areas pages count address).value ≡ a
+  found_value o = sym (ap (λ (o : Reply Area). o.value) (ap found_outcome (sym o) ∙ e))
+
+  pub found_nothing : {d : Refusal} → r ≡ Err d → (find_rule areas pages count address).value ≡ nothing
+  found_nothing o = sym (ap (λ (o : Reply Area). o.value) (ap found_outcome (sym o) ∙ e))
 
 -- ---- an area found lies in the space; the all-zero area of a refusal does too
 
@@ -125,6 +136,10 @@ find_inside_at areas pages count address true g =
 pub find_inside : (areas pages : List ℕ) (count address : ℕ) → Inside (space_of (length pages)) (find_rule areas pages count address).value
 find_inside areas pages count address = find_inside_at areas pages count address (good_tables areas count (length pages)) refl
 
+pub found_inside : (areas pages : List ℕ) (count address : ℕ) (r : Result Area Refusal) → found_outcome r ≡ find_rule areas pages count address
+    → {a : Area} → r ≡ Ok a → Inside (space_of (length pages)) a
+found_inside areas pages count address r e o = rw (← found_value areas pages count address r e o) (find_inside areas pages count address)
+
 -- ---- entries: as many as the area found has pages, and none in a refusal
 
 module _ (areas pages : List ℕ) (count address : ℕ) where
@@ -143,6 +158,12 @@ module _ (areas pages : List ℕ) (count size low high align : ℕ) where
   pub search_bad : good_tables areas count (length pages) ≡ false → search_answer areas pages count size low high align ≡ 1
   unfolding search_answer search_tests answer
   search_bad g = rw g
+
+  -- tables that are refused are refused first
+  pub search_first : {k : ℕ} → k ≡ tables_answer areas pages count → (k ≡ 0 → ⊥) → k ≡ search_answer areas pages count size low high align
+  search_first e h =
+      by_test (good_tables areas count (length pages)) (λ g. absurd (h (e ∙ tables_good areas pages count g)))
+      (λ g. e ∙ tables_bad areas pages count g ∙ sym (search_bad g))
 
   module _ (g : good_tables areas count (length pages) ≡ true) where
     pub align_no_power : is_power_of_two align ≡ false → search_answer areas pages count size low high align ≡ 3
@@ -208,7 +229,7 @@ module _ (areas pages : List ℕ) (count size low high align : ℕ) (z : search_
       (λ p. absurd (never (omega arith) (align_no_power areas pages count size low high align g p))))
       (λ g. absurd (never (omega arith) (search_bad areas pages count size low high align g)))
 
--- ---- the outcome of the search at each answer
+-- ---- the outcome of a search that is refused
 
 placed_other : (n : ℕ) (found : FreeOutcome) → (n ≡ 0 → ⊥) → reply n 0 ≡ placed_by n found
 unfolding placed_by
@@ -221,25 +242,16 @@ module _ (areas pages : List ℕ) (count hint size low high align n : ℕ) (e : 
   placed_refused h =
       rw (← e) (placed_other n (free_rule (rows areas count) (asked hint size low high align (space_of (length pages)))) h)
 
-  module _ (z : n ≡ 0) (free : Free) (f : free_outcome free ≡ free_rule (rows areas count) (asked hint size low high align (space_of (length pages)))) where
-    pub placed_at : (at : ℕ) → free ≡ At at → reply n at ≡ free_area_rule areas pages count hint size low high align
-    unfolding free_area_rule placed_by
-    placed_at at w = rw (← e, z, ← f, w)
-
-    pub placed_nowhere : free ≡ Nowhere → reply 7 0 ≡ free_area_rule areas pages count hint size low high align
-    unfolding free_area_rule placed_by
-    placed_nowhere w = rw (← e, z, ← f, w)
-
 -- ---- no second outcome: the answer's number and its value fix the result
 
-pub counted_unique : (r s : Counted) → len_outcome r ≡ len_outcome s → r ≡ s
-counted_unique r s e i = let u = one_outcome r.answer s.answer r.len s.len e in record { answer = u.answers i; len = u.values i }
+pub counted_unique : (r s : Result ℕ Refusal) → len_outcome r ≡ len_outcome s → r ≡ s
+counted_unique = one_outcome 0
 
-pub told_unique : (r s : Told) → told_outcome r ≡ told_outcome s → r ≡ s
-told_unique r s e i = let u = one_outcome r.answer s.answer r.yes s.yes e in record { answer = u.answers i; yes = u.values i }
+pub told_unique : (r s : Result Bool Refusal) → told_outcome r ≡ told_outcome s → r ≡ s
+told_unique = one_outcome false
 
-pub found_unique : (r s : Found) → found_outcome r ≡ found_outcome s → r ≡ s
-found_unique r s e i = let u = one_outcome r.answer s.answer r.area s.area e in record { answer = u.answers i; area = u.values i }
+pub found_unique : (r s : Result Area Refusal) → found_outcome r ≡ found_outcome s → r ≡ s
+found_unique = one_outcome nothing
 
-pub placed_unique : (r s : Placed) → placed_outcome r ≡ placed_outcome s → r ≡ s
-placed_unique r s e i = let u = one_outcome r.answer s.answer r.at s.at e in record { answer = u.answers i; at = u.values i }
+pub placed_unique : (r s : Result ℕ Refusal) → placed_outcome r ≡ placed_outcome s → r ≡ s
+placed_unique = one_outcome 0

@@ -1,9 +1,10 @@
 -- The calls that ask and change nothing (01, "The calls"). Each rule is total: an answer number, which is the first test that
 -- applies, and the other values of the answer; "any other number in its answer is 0, and any yes or no is no" in a refusal.
 -- Laws: `proofs/Questions.antt`. Assumes nothing.
-use Rattle.std.specs.Prelude.{ℕ, zero, suc, ◌+◌, ◌-◌, ◌%◌, Bool, false, not, List, [], ◌∷◌, eqb, leb, ltb, length, get_or, take, drop}
+use Rattle.std.specs.Prelude.{ℕ, zero, suc, ◌+◌, ◌-◌, ◌%◌, Bool, false, not, List, [], ◌∷◌, eqb, leb, ltb, length, get_or, take, drop, Result}
 use Rattle.page_table.specs.Limits.{page_size}
-use Rattle.area.specs.Answer.{number, Test, refuse, answer, Reply, reply, reply_by}
+use Rattle.area.specs.Answer.{Test, refuse, answer, Reply, reply, reply_by, outcome}
+use Rattle.area.specs.declared.Refusal.{Refusal}
 use Rattle.area.specs.Area.{first_page, end_page, nothing}
 use Rattle.area.specs.declared.Area.{Area}
 use Rattle.area_list.specs.Layout.{rows}
@@ -12,21 +13,17 @@ use Rattle.area_list.specs.Meet.{shares_any}
 use Rattle.area_list.specs.Good.{space_of}
 use Rattle.search.specs.Free.{is_power_of_two, asked, FreeOutcome, free_rule}
 use Rattle.questions.specs.Tests.{bad_tables, tables_answer, range_answer}
-use Rattle.questions.specs.declared.Counted.{Counted}
-use Rattle.questions.specs.declared.Told.{Told}
-use Rattle.questions.specs.declared.Found.{Found}
-use Rattle.questions.specs.declared.Placed.{Placed}
 
 -- ---- len and empty: "The count; whether it is 0"
 
-abbrev pub len_outcome : Counted → Reply ℕ
-len_outcome r = reply (number r.answer) r.len
+abbrev pub len_outcome : Result ℕ Refusal → Reply ℕ
+len_outcome = outcome 0
 
 unfoldable pub len_rule : List ℕ → List ℕ → ℕ → Reply ℕ
 len_rule areas pages count = reply_by 0 (tables_answer areas pages count) count
 
-abbrev pub told_outcome : Told → Reply Bool
-told_outcome r = reply (number r.answer) r.yes
+abbrev pub told_outcome : Result Bool Refusal → Reply Bool
+told_outcome = outcome false
 
 unfoldable pub empty_rule : List ℕ → List ℕ → ℕ → Reply Bool
 empty_rule areas pages count = reply_by false (tables_answer areas pages count) (eqb count 0)
@@ -39,8 +36,8 @@ overlaps_rule areas pages count start size =
 
 -- ---- find: "The area holding it"; 7 for an "address in no area"
 
-abbrev pub found_outcome : Found → Reply Area
-found_outcome r = reply (number r.answer) r.area
+abbrev pub found_outcome : Result Area Refusal → Reply Area
+found_outcome = outcome nothing
 
 -- the place of the area that holds the address, or the number of areas
 unfoldable pub holder : List Area → ℕ → ℕ
@@ -81,8 +78,8 @@ search_tests areas pages count size limitStart limitEnd align =
 unfoldable pub search_answer : List ℕ → List ℕ → ℕ → ℕ → ℕ → ℕ → ℕ → ℕ
 search_answer areas pages count size limitStart limitEnd align = answer (search_tests areas pages count size limitStart limitEnd align)
 
-abbrev pub placed_outcome : Placed → Reply ℕ
-placed_outcome r = reply (number r.answer) r.at
+abbrev pub placed_outcome : Result ℕ Refusal → Reply ℕ
+placed_outcome = outcome 0
 
 -- what the search found, or address 0 where a test refused
 unfoldable pub placed_by : ℕ → FreeOutcome → Reply ℕ

@@ -1,5 +1,5 @@
 -- Laws of the reader: a byte more, many bytes, the room that they need, the listing. Assumes nothing.
-use Prim.Native.Nat.{ℕ, zero, suc, ◌+◌, ◌-◌, ◌≤◌, ◌<◌}
+use Prim.Native.Nat.{ℕ, zero, suc, ◌+◌, ◌≤◌, ◌<◌}
 use mathlib.Core.Path.{◌≡◌, refl, sym, ap, ◌∙◌}
 use mathlib.Core.List.{List, [], ◌∷◌, ◌++◌, append_assoc, append-nil}
 use native.Mathlib.Numerals.{add-one}
@@ -11,13 +11,16 @@ use borrow.Author.Tests.{lt-ltb, le-ltb, ltb-true, ltb-false, eq-eqb, ne_eqb, eq
 use Rattle.lists.proofs.Every.{by_test}
 use Rattle.lists.proofs.Over.{over_nothing}
 use Rattle.area.specs.Answer.{answer, Reply, reply}
-use Rattle.area.proofs.Answers.{reply_accepted, reply_refused, reply_zero}
+use Rattle.std.specs.Prelude.{Result, Ok, Err, IsOk}
+use Rattle.area.proofs.Answers.{reply_accepted, reply_refused, reply_zero, refusal_some}
+use Rattle.area.specs.declared.Refusal.{Refusal}
+use Rattle.records.specs.declared.Fed.{Fed}
 use Rattle.rules.specs.Change.{Tables}
 use Rattle.lines.specs.Line.{Put}
 use Rattle.requests.specs.Request.{record_size}
 use Rattle.runs.specs.Step.{Ran, step_rule}
 use Rattle.runs.proofs.Steps.{step_short}
-use Rattle.records.specs.Feed.{Session, session, Heard, heard, whole_record, took, next_filled, after, takes, room_for, feed_answer, feed_rule, settled, filled_after, fed_filled}
+use Rattle.records.specs.Feed.{Session, session, Heard, heard, whole_record, took, next_filled, after, takes, room_for, feed_answer, fed_outcome, feed_rule, settled, filled_after, fed_filled}
 use Rattle.lines.proofs.Lines.{puts, put_then}
 
 pub put_nothing : (out : List ℕ) (at : ℕ) → at ≤ length out → Put out at [] out at
@@ -104,47 +107,16 @@ module _ {s₀ : Session} {input out₀ : List ℕ} {s : Session} {out : List �
       let all : takes s₀ input ≡ heard s f.said = f.whole ∙ ended h in
       (sym (ap (λ (x : Heard). x.session) all), rw all f.put)
 
--- what the loop keeps of lengths, and the room that is left
-pub record Sized (areas₀ pages₀ bytes₀ input out₀ areas pages bytes out : List ℕ) (filled at k : ℕ) : Type 0 where
-  pub areas_long : length areas ≡ length areas₀
-  pub pages_long : length pages ≡ length pages₀
-  pub bytes_long : length bytes ≡ length bytes₀
-  pub out_long : length out ≡ length out₀
-  pub record_long : length bytes ≡ record_size
-  pub part : filled < record_size
-  pub room : at + room_for (filled + (length input - k)) ≤ length out₀
-
-pub sized_begin : {areas pages bytes input out : List ℕ} {filled : ℕ} → length bytes ≡ record_size → filled < record_size → room_for (filled + length input) ≤ length out
-    → Sized areas pages bytes input out areas pages bytes out filled 0 0
-sized_begin l p r =
-    record { areas_long = refl; pages_long = refl; bytes_long = refl; out_long = refl; record_long = l; part = p; room = omega arith }
-
-next_part : (filled : ℕ) → next_filled filled < record_size
+pub next_part : (filled : ℕ) → next_filled filled < record_size
 next_part filled = by_test (ltb (filled + 1) record_size) (λ p. rw p (ltb-true _ _ p)) (λ p. rw p (omega arith))
 
-pub sized_on : {areas₀ pages₀ bytes₀ input out₀ areas pages bytes out : List ℕ} {filled at k : ℕ}
-    → Sized areas₀ pages₀ bytes₀ input out₀ areas pages bytes out filled at k → k < length input
-    → (t : Tables) (byte : ℕ) {areas' pages' bytes' out' : List ℕ} {filled' at' : ℕ}
-    → length areas' ≡ length areas → length pages' ≡ length pages → length bytes' ≡ length bytes
-    → Put out at (took (session t (take filled bytes)) byte).said out' at' → filled' ≡ next_filled filled
-    → Sized areas₀ pages₀ bytes₀ input out₀ areas' pages' bytes' out' filled' at' (k + 1)
-sized_on {input = input} {bytes = bytes} {filled = filled} {k = k} z h t byte a b c p e =
-    let held : length (take filled bytes) ≡ filled = length-take-le filled bytes (omega (arith, z.record_long, z.part)) in
-    record {
-      areas_long = a ∙ z.areas_long;
-      pages_long = b ∙ z.pages_long;
-      bytes_long = c ∙ z.bytes_long;
-      out_long = p.long ∙ z.out_long;
-      record_long = c ∙ z.record_long;
-      part = rw e (next_part filled);
-      room = rw e
-          (omega (
-            arith,
-            took_room (session t (take filled bytes)) byte (length input - (k + 1)) filled held z.part,
-            z.room,
-            p.past,
-          ));
-    }
+-- the room that is left does for the rest
+pub room_on : (t : Tables) (bytes : List ℕ) (filled byte rest : ℕ) → length bytes ≡ record_size → filled < record_size
+    → {out out' : List ℕ} {at at' filled' : ℕ} → Put out at (took (session t (take filled bytes)) byte).said out' at' → filled' ≡ next_filled filled
+    → at' + room_for (filled' + rest) ≤ at + room_for (filled + suc rest)
+room_on t bytes filled byte rest long part p e =
+    rw e
+    (omega (arith, took_room (session t (take filled bytes)) byte rest filled (length-take-le filled bytes (omega arith)) part, p.past))
 
 -- ---- a piece of input
 
@@ -242,6 +214,13 @@ module _ (t : Tables) (bytes : List ℕ) (filled : ℕ) (input : List ℕ) (room
 
   fed_holds : length (feed_rule t bytes filled input room).value.session.held < record_size
   fed_holds = rw (← fed) (takes_holds (session t (take filled bytes)) input (omega (arith, length-take-le filled bytes (omega arith))))
+
+pub fed_ok : (t : Tables) (bytes : List ℕ) (filled : ℕ) (input : List ℕ) (room count : ℕ) (r : Result Fed Refusal) (s : Session)
+    → reply (fed_outcome count filled r).answer s ≡ settled (feed_rule t bytes filled input room)
+    → length bytes ≡ record_size → filled < record_size → room_for (filled + length input) ≤ room → IsOk r
+fed_ok t bytes filled input room count (Ok f) s e long part fits = refl
+fed_ok t bytes filled input room count (Err refusal) s e long part fits =
+    absurd (refusal_some refusal (ap (λ (r : Reply Session). r.answer) e ∙ fed_answer t bytes filled input room long part fits))
 
 pub fed_leaves : (t : Tables) (bytes : List ℕ) (filled : ℕ) (input : List ℕ) (room n : ℕ) (s : Session)
     → reply n s ≡ settled (feed_rule t bytes filled input room)

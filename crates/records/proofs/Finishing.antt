@@ -1,6 +1,6 @@
 -- Laws of the end of the input: `cut`, the listing, area by area, and its answers. Assumes nothing.
 use Prim.Native.Nat.{ℕ, zero, suc, ◌+◌, ◌*◌, ◌≤◌, ◌<◌}
-use mathlib.Core.Path.{◌≡◌, refl, sym, ap}
+use mathlib.Core.Path.{◌≡◌, refl, sym, ap, ◌∙◌}
 use mathlib.Core.Bool.{true, false}
 use mathlib.Core.List.{List, [], ◌∷◌, ◌++◌, append_assoc, append-nil}
 use native.Mathlib.Numerals.{add-one}
@@ -17,6 +17,9 @@ use Rattle.area_list.specs.Layout.{rows}
 use Rattle.lines.specs.Line.{longest_line, line_bytes, Put}
 use Rattle.records.specs.Feed.{cut_line, area_line, listing, room_to_finish, finish_answer, finish_rule}
 use Rattle.lines.specs.declared.Line.TheVariants as line
+use Rattle.lists.proofs.Every.{by_test}
+use Rattle.questions.specs.Tests.{tables_answer}
+use Rattle.questions.proofs.Answering.{tables_bad, tables_good}
 use Rattle.records.proofs.Feeding.{put_nothing}
 use Rattle.lines.proofs.Lines.{put_then, line_short}
 
@@ -82,10 +85,17 @@ module _ (areas pages : List ℕ) (count filled : ℕ) (out : List ℕ) where
       rw e (reply_refused [] n (cut_line filled ++ listing (rows areas count)) h) in
       (ap (λ (r : Reply (List ℕ)). r.answer) rule, rw (← rule) (put_nothing out 0 (omega arith)))
 
-  pub finish_bad : good_tables areas count (length pages) ≡ false
+  finish_bad : good_tables areas count (length pages) ≡ false
       → (1 ≡ (finish_rule areas pages count filled (length out)).answer) × Put out 0 (finish_rule areas pages count filled (length out)).value out 0
   unfolding finish_answer answer
   finish_bad g = finish_refused 1 (λ z. omega arith) (rw g)
+
+  pub finish_stops : (n : ℕ) → n ≡ tables_answer areas pages count → (n ≡ 0 → ⊥)
+      → (n ≡ (finish_rule areas pages count filled (length out)).answer) × Put out 0 (finish_rule areas pages count filled (length out)).value out 0
+  finish_stops n e h =
+      by_test (good_tables areas count (length pages))
+      (λ g. absurd (h (e ∙ tables_good areas pages count g)))
+      (λ g. rw (e ∙ tables_bad areas pages count g) (finish_bad g))
 
   module _ (g : good_tables areas count (length pages) ≡ true) where
     pub finish_no_room : length out < room_to_finish count

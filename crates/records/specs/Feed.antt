@@ -1,9 +1,10 @@
 -- The reader (01: "It reads requests from standard input in 32-byte records without header .., and `cut` for a partial last record.
 -- At the end each area"), as a step over a state for each byte, so that input may come in pieces cut anywhere.
 -- Laws: `proofs/Feeding.antt`. Assumes nothing.
-use Rattle.std.specs.Prelude.{ℕ, zero, suc, ◌+◌, ◌*◌, ◌/◌, not, ◌&&◌, cond, List, [], ◌∷◌, ◌++◌, eqb, ltb, length, take}
-use Rattle.area.specs.Answer.{Test, refuse, answer, Reply, reply, reply_by}
+use Rattle.std.specs.Prelude.{ℕ, zero, suc, ◌+◌, ◌*◌, ◌/◌, not, ◌&&◌, cond, List, [], ◌∷◌, ◌++◌, eqb, ltb, length, take, Result, Ok, Err}
+use Rattle.area.specs.Answer.{number, outcome, Test, refuse, answer, Reply, reply, reply_by}
 use Rattle.area.specs.declared.Area.{Area}
+use Rattle.area.specs.declared.Refusal.{Refusal}
 use Rattle.area_list.specs.Layout.{rows}
 use Rattle.rules.specs.Change.{Tables}
 use Rattle.questions.specs.Tests.{bad_tables}
@@ -11,6 +12,7 @@ use Rattle.lines.specs.Line.{longest_line, line_bytes}
 use Rattle.requests.specs.Request.{record_size}
 use Rattle.runs.specs.Step.{Ran, step_rule}
 use Rattle.lines.specs.declared.Line.TheVariants as line
+use Rattle.records.specs.declared.Fed.{Fed}
 
 -- the tables, and the bytes of a record that is not whole yet
 pub record Session : Type 0 where
@@ -65,6 +67,11 @@ feed_tests size filled input room =
 unfoldable pub feed_answer : ℕ → ℕ → ℕ → ℕ → ℕ
 feed_answer size filled input room = answer (feed_tests size filled input room)
 
+-- what feeding answers; a refusal leaves the count and what is held, and writes nothing
+abbrev pub fed_outcome : ℕ → ℕ → Result Fed Refusal → Reply Fed
+fed_outcome count filled (Ok fed) = reply 0 fed
+fed_outcome count filled (Err refusal) = reply (number refusal) (record { count = count; filled = filled; written = 0 })
+
 -- the record's bytes so far are the first of those lent
 unfoldable pub feed_rule : Tables → List ℕ → ℕ → List ℕ → ℕ → Reply Heard
 feed_rule t bytes filled input room =
@@ -107,6 +114,10 @@ finish_tests areas pages count room = bad_tables areas pages count ∷ refuse 6 
 
 unfoldable pub finish_answer : List ℕ → List ℕ → ℕ → ℕ → ℕ
 finish_answer areas pages count room = answer (finish_tests areas pages count room)
+
+-- how many bytes finishing wrote; none in a refusal
+abbrev pub finished_outcome : Result ℕ Refusal → Reply ℕ
+finished_outcome = outcome 0
 
 -- what is said at the end, with so many bytes held
 unfoldable pub finish_rule : List ℕ → List ℕ → ℕ → ℕ → ℕ → Reply (List ℕ)

@@ -9,8 +9,9 @@ use lib.Bits.{bit_or, or_add_and, and_le_l, and_le_r}
 use lib.Dec.{eqb}
 use borrow.Author.Tests.{eq-eqb, ne_eqb, eqb-true, eqb-false, le-leb, lt-leb}
 use Rattle.lists.proofs.Every.{by_test}
-use Rattle.page_table.specs.declared.Backend.TheVariants.{Lazy, Linear}
-use Rattle.requests.specs.Request.{all_zero, Blank, unless, map_with, map_by, search_by, choices, chosen, request_by}
+use Rattle.std.specs.Prelude.{Option, Some, None}
+use Rattle.page_table.specs.declared.Backend.{Backend}
+use Rattle.requests.specs.Request.{all_zero, Blank, unless, map_with, backend_by, map_by, search_by, choices, chosen, request_by}
 use Rattle.requests.specs.declared.Fields.{Fields}
 use Rattle.requests.specs.declared.Request.{Request}
 use Rattle.requests.specs.declared.Request.TheVariants.{Search, Bad}
@@ -42,9 +43,9 @@ both {m} {n} {xs} {ys} p q = record { same = rw (or_zero m n, p.same, q.same) (s
 pub handed : {m n : ℕ} {xs : List ℕ} → m ≡ n → Blank n xs → Blank m xs
 handed e p = record { same = rw e p.same }
 
-pub unless_blank : {n : ℕ} {xs : List ℕ} (request : Request) → Blank n xs → cond (eqb n 0) request Bad ≡ unless xs request
+pub unless_is : {n : ℕ} {xs : List ℕ} (request : Request) → Blank n xs → cond (eqb n 0) request Bad ≡ unless xs request
 unfolding unless
-unless_blank request b = rw b.same
+unless_is request b = rw b.same
 
 pub unless_unless : (xs ys : List ℕ) (request : Request) → unless (xs ++ ys) request ≡ unless xs (unless ys request)
 unfolding unless
@@ -67,16 +68,28 @@ module _ (f : Fields) where
   unfolding search_by
   search_fits align e h = rw (e, le-leb f.clear 63 h)
 
-  pub map_linear : (replace : Bool) → f.backend ≡ 1
-      → unless (f.clear ∷ f.limit ∷ []) (map_with f (Linear f.delta) replace) ≡ map_by f replace
-  unfolding map_by
-  map_linear replace e = rw (eq-eqb f.backend 1 e)
+  -- a map with the backend that is asked for, and none without
+  map_of : Bool → Option Backend → Request
+  map_of replace (Some backend) = unless (f.clear ∷ f.limit ∷ []) (map_with f backend replace)
+  map_of replace None = Bad
 
-  pub map_lazy : (replace : Bool) → (f.backend ≡ 1 → ⊥)
-      → unless (f.clear ∷ f.limit ∷ f.backend ∷ f.delta ∷ []) (map_with f Lazy replace) ≡ map_by f replace
-  unfolding map_by
-  map_lazy replace e =
-      rw (ne_eqb f.backend 1 e) (unless_unless (f.clear ∷ f.limit ∷ []) (f.backend ∷ f.delta ∷ []) (map_with f Lazy replace))
+  map_is : (replace : Bool) → map_of replace (backend_by f) ≡ map_by f replace
+  unfolding map_of backend_by map_by unless
+  map_is replace =
+      by_test (eqb f.backend 1)
+      (λ p. rw p)
+      (λ p. by_test (all_zero (f.backend ∷ f.delta ∷ []))
+      (λ q. rw (p, q))
+      (λ q. rw (p, q) (by_test (all_zero (f.clear ∷ f.limit ∷ [])) (λ r. rw r) (λ r. rw r))))
+
+  pub map_some : (backend : Backend) → backend_by f ≡ Some backend → (replace : Bool)
+      → unless (f.clear ∷ f.limit ∷ []) (map_with f backend replace) ≡ map_by f replace
+  unfolding map_of
+  map_some backend e replace = rw e at (map_is replace)
+
+  pub map_none : backend_by f ≡ None → (replace : Bool) → Bad ≡ map_by f replace
+  unfolding map_of
+  map_none e replace = rw e at (map_is replace)
 
 -- an op that asks for nothing
 pub no_op : (f : Fields)

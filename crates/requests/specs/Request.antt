@@ -2,7 +2,7 @@
 -- replacing, 3 unmap, 4 protect, 5 find, 6 overlaps, 7 search, 8 clear. Byte 1: flags or set. Byte 2: clear, or for search
 -- align's exponent. Byte 3: 0 lazy, 1 linear. Bytes 4–7 delta; 8–15 start, address or hint; 16–23 size; 24–31 limit end of a
 -- search (its limit start is 0)." Laws: `proofs/Requests.antt`. Assumes nothing.
-use Rattle.std.specs.Prelude.{ℕ, ◌^◌, ◌≡◌, Bool, true, false, ◌&&◌, cond, List, [], ◌∷◌, eqb, leb, length, get_or}
+use Rattle.std.specs.Prelude.{ℕ, ◌^◌, ◌≡◌, Bool, true, false, ◌&&◌, cond, List, [], ◌∷◌, Option, Some, None, eqb, leb, length, get_or}
 use Rattle.little_endian.specs.Number.{number_at}
 use Rattle.page_table.specs.declared.Backend.{Backend}
 use Rattle.page_table.specs.declared.Backend.TheVariants.{Lazy, Linear}
@@ -45,6 +45,10 @@ beside_range f = f.flags ∷ f.clear ∷ f.backend ∷ f.delta ∷ f.limit ∷ [
 
 abbrev pub map_with : Fields → Backend → Bool → Request
 map_with f backend replace = Map f.start f.size f.flags backend replace
+
+-- "0 lazy, 1 linear", with none for "another .. backend" and for a delta "with lazy"
+unfoldable pub backend_by : Fields → Option Backend
+backend_by f = cond (eqb f.backend 1) (Some (Linear f.delta)) (cond (all_zero (f.backend ∷ f.delta ∷ [])) (Some Lazy) None)
 
 -- "0 lazy, 1 linear", "another .. backend" is bad, and so is a delta "with lazy"
 unfoldable pub map_by : Fields → Bool → Request

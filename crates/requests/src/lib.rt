@@ -4,10 +4,11 @@
 //    [ op | flags | clear | backend | delta | start | size | limit ]
 #![tactic(auto)]
 
-ghost use Rattle.std.specs.Prelude.{◌≡◌, ◌^◌, ◌≤◌, ◌<◌, cond, eqb, length};
-ghost use Rattle.requests.specs.Request.{record_size, fields_of, Blank, beside_range, map_by, search_by, request_by, request_of};
+ghost use Rattle.std.specs.Prelude.{◌≡◌, cond, eqb, length};
+ghost use Rattle.requests.specs.Request.{record_size, fields_of, Blank, beside_range, backend_by};
+ghost use Rattle.requests.specs.Request.{map_by, search_by, request_by, request_of};
 
-use little_endian::{byte, wide, word32, word64};
+use little_endian::read;
 use page_table::Backend;
 
 // Bytes in a record.
@@ -47,13 +48,13 @@ pub enum Request {
         align: u64,
     },
     Clear,
-    // No request: another op, backend or exponent, or a field that should be 0.
+    // Another op, backend or exponent, or a field that should be 0. No absent request: it is run and answered like the others.
     Bad,
 }
 
 // The fields of a record, as they lie. Some have a second use: flags is protect's set, clear is a search's exponent, and start
 // an address or a hint.
-#[derive(Drop)]
+#[derive(Clone, Copy)]
 struct Fields {
     op: u32,
     flags: u32,
@@ -65,23 +66,20 @@ struct Fields {
     limit: u64,
 }
 
+#[tactic(auto, unfolding(crate::specs::Request::fields_of))]
 fn fields_of(bytes: &[u8]) -> Fields
     requires { length bytes.now ≡ record_size }
     ensures { result ≡ fields_of bytes.now }
 {
-    let delta = word32(bytes, 4);
-    let start = word64(bytes, 8);
-    let size = word64(bytes, 16);
-    let limit = word64(bytes, 24);
     Fields {
-        op: byte(bytes[0]),
-        flags: byte(bytes[1]),
-        clear: byte(bytes[2]),
-        backend: byte(bytes[3]),
-        delta,
-        start,
-        size,
-        limit,
+        op: u32::from(bytes[0]),
+        flags: u32::from(bytes[1]),
+        clear: u32::from(bytes[2]),
+        backend: u32::from(bytes[3]),
+        delta: read(bytes, 4),
+        start: read(bytes, 8),
+        size: read(bytes, 16),
+        limit: read(bytes, 24),
     }
 }
 
@@ -89,17 +87,7 @@ fn fields_of(bytes: &[u8]) -> Fields
 fn unless(unused: u64, request: Request) -> Request
     ensures { result ≡ cond (eqb unused 0) request Request.Bad }
 {
-    if unused != 0 {
-        return Request::Bad;
-    }
-    request
-}
-
-fn power_of_two(exponent: u32) -> u64
-    requires { exponent ≤ 63 }
-    ensures { result ≡ 2 ^ exponent }
-{
-    1 << exponent
+    if unused == 0 { request } else { Request::Bad }
 }
 
 impl Fields {
@@ -107,72 +95,70 @@ impl Fields {
     fn beside_range(self) -> u64
         ensures { Blank result (beside_range self) }
     {
-        wide(self.flags | self.clear | self.backend | self.delta) | self.limit
+        u64::from(self.flags | self.clear | self.backend | self.delta) | self.limit
+    }
+
+    // 0 is lazy, which has no delta, and 1 is linear.
+    #[tactic(auto, unfolding(crate::specs::Request::backend_by, crate::specs::Request::all_zero))]
+    fn backend(self) -> Option<Backend>
+        ensures { result ≡ backend_by self }
+    {
+        match (self.backend, self.delta) {
+            (0, 0) => Some(Backend::Lazy),
+            (1, delta) => Some(Backend::Linear(delta)),
+            _ => None,
+        }
     }
 
     fn map(self, replace: bool) -> Request
         ensures { result ≡ map_by self replace }
     {
-        let start = self.start;
-        let size = self.size;
-        let flags = self.flags;
-        let unused = wide(self.clear) | self.limit;
-        if self.backend == 1 {
-            let backend = Backend::Linear(self.delta);
-            return unless(
-                unused,
+        match self.backend() {
+            Some(backend) => unless(
+                u64::from(self.clear) | self.limit,
                 Request::Map {
-                    start,
-                    size,
-                    flags,
+                    start: self.start,
+                    size: self.size,
+                    flags: self.flags,
                     backend,
                     replace,
                 },
-            );
+            ),
+            None => Request::Bad,
         }
-        let backend = Backend::Lazy;
-        unless(
-            unused | wide(self.backend | self.delta),
-            Request::Map {
-                start,
-                size,
-                flags,
-                backend,
-                replace,
-            },
-        )
     }
 
+    #[tactic(auto, using(crate::proofs::Requests::search_too_far), unfolding(crate::specs::Request::search_by))]
     fn search(self) -> Request
         ensures { result ≡ search_by self }
     {
         if MAX_EXPONENT < self.clear {
             return Request::Bad;
         }
-        let align = power_of_two(self.clear);
         unless(
-            wide(self.flags | self.backend | self.delta),
+            u64::from(self.flags | self.backend | self.delta),
             Request::Search {
                 hint: self.start,
                 size: self.size,
                 limit: self.limit,
-                align,
+                align: 1 << self.clear,
             },
         )
     }
 
+    #[tactic(auto, using(crate::proofs::Requests::unless_is), unfolding(crate::specs::Request::request_by, crate::specs::Request::chosen))]
     fn asked(self) -> Request
         ensures { result ≡ request_by self }
     {
         let start = self.start;
         let size = self.size;
-        let op = self.op;
-        match op {
+        // here and in `backend` a kind is a number: the record's bytes are decoded
+        match self.op {
             1 => self.map(false),
             2 => self.map(true),
             3 => unless(self.beside_range(), Request::Unmap { start, size }),
             4 => unless(
-                wide(self.backend | self.delta) | self.limit,
+                u64::from(self.backend | self.delta) | self.limit,
                 Request::Protect {
                     start,
                     size,
@@ -190,6 +176,7 @@ impl Fields {
 }
 
 // What a record asks for. Bytes of another length ask for nothing.
+#[tactic(auto, unfolding(crate::specs::Request::request_of))]
 pub fn decode(bytes: &[u8]) -> Request
     ensures { result ≡ request_of bytes.now }
 {

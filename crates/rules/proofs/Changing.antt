@@ -8,35 +8,38 @@ use native.Mathlib.Decide.{dec_le, ℕ_discrete}
 use lib.Dec.{ltb, eqb}
 use lib.ListN.{length, drop_of_length-le}
 use borrow.Author.Tests.{lt-ltb, le-ltb, eq-eqb, ne_eqb}
+use Rattle.std.specs.Prelude.{Result, Ok, Err, IsErrAnd}
+use Rattle.std.proofs.lemmas.Result.{err_from_is_err_and}
 use Rattle.lists.specs.Each.{within}
 use Rattle.lists.proofs.Each.{length_within, within_in, within_before, within_after, within_is, within_none}
 use Rattle.page_table.specs.Limits.{page_size, max_flags}
 use Rattle.page_writes.specs.Change.{writes}
 use Rattle.page_table.specs.Frames.{backend_fits}
 use Rattle.page_table.specs.declared.Backend.{Backend}
-use Rattle.area.specs.Answer.{answer, Test, refuse, reply}
+use Rattle.area.specs.Answer.{number, answer, Test, refuse, reply, reply_by}
 use Rattle.area.specs.declared.Area.{Area}
-use Rattle.area.proofs.Answers.{reply_refused, reply_zero, reply_suc}
+use Rattle.area.specs.declared.Refusal.{Refusal}
+use Rattle.area.specs.declared.Refusal.TheVariants.{NoRoom}
+use Rattle.area.proofs.Answers.{reply_refused, reply_zero, reply_suc, refusal_some}
 use Rattle.area_list.specs.Layout.{max_areas, capacity_of, rows}
-use Rattle.area_list.specs.Good.{space_of, good_tables}
+use Rattle.area_list.specs.Good.{space_of}
 use Rattle.area_list.specs.Meet.{shares_any}
 use Rattle.area_list.specs.Store.{store, spliced}
+use Rattle.std.specs.Prelude.{Some}
 use Rattle.slots.specs.Splice.{parts_of}
-use Rattle.slots.specs.declared.Parts.{Parts}
 use Rattle.area_list.proofs.Rows.{length_rows}
 use Rattle.area_list.proofs.Goodness.{GoodTables, tables_are}
 use Rattle.area_list.proofs.Positions.{sorted}
 use Rattle.area_list.proofs.Stores.{store_same, length_spliced}
-use Rattle.slots.proofs.Writes.{length_parts}
 use Rattle.effects.specs.Pages.{on_areas, wipes_area, cut_pages, map_pages, protects_area, protect_pages}
 use Rattle.effects.proofs.Cutting.{cut_empty}
 use Rattle.effects.proofs.Protecting.{protect_empty}
-use Rattle.changes.specs.Gap.{piece_of, Cuts, Lays}
+use Rattle.changes.specs.Gap.{Cuts}
 use Rattle.changes.specs.declared.Gap.{Gap}
-use Rattle.changes.proofs.Gaps.{gap_cut, gap_insert}
-use Rattle.questions.specs.Tests.{range_tests, range_answer}
-use Rattle.rules.specs.Change.{tables, listed, no_room, unmap_list, unmap_tests, unmap_rule, clear_rule, mapped, map_list, map_first_tests, map_first_answer, map_tests, map_rule, protect_list, protect_first_tests, protect_first_answer, protect_tests, protect_rule}
-use Rattle.questions.proofs.Answering.{Refuses, no_test, one_test, answer_then, answer_stops, range_refuses, tables_bad, tables_good, Range, range_is, range_small}
+use Rattle.changes.proofs.Gaps.{both_sides, sides_around, gap_cut, gap_insert}
+use Rattle.questions.specs.Tests.{tables_answer, range_tests, range_answer}
+use Rattle.rules.specs.Change.{Tables, tables, changed_outcome, listed, no_room, unmap_list, unmap_tests, unmap_rule, clear_rule, mapped, map_list, map_first_tests, map_first_answer, map_rule, protect_list, protect_first_tests, protect_first_answer, protect_tests, protect_rule}
+use Rattle.questions.proofs.Answering.{Refuses, no_test, one_test, answer_then, answer_stops, range_refuses, Range, range_is, range_small}
 
 -- ---- tests after those of the range
 
@@ -49,6 +52,8 @@ module _ (areas pages : List ℕ) (count start size : ℕ) (us : List Test) wher
   unfolding range_answer
   range_stops h = answer_stops us (range_refuses areas pages count start size) h
 
+-- ---- a change makes some tests and then the one for room: its three exits
+
 room_no : (areas : List ℕ) (list : List Area) → capacity_of (length areas) < length list → answer (no_room areas list ∷ []) ≡ 6
 unfolding answer
 room_no areas list h = rw (lt-ltb (capacity_of (length areas)) (length list) h)
@@ -57,22 +62,63 @@ room_yes : (areas : List ℕ) (list : List Area) → length list ≤ capacity_of
 unfolding answer
 room_yes areas list h = rw (le-ltb (capacity_of (length areas)) (length list) h)
 
+-- what the exit of a `?` returns: the refusal, as it came
+abbrev pub Exit : Refusal → Result ℕ Refusal → Type 0
+Exit refusal r = IsErrAnd r (λ e. e ≡ refusal)
+
+exits : (areas pages : List ℕ) (count n : ℕ) (after : Tables) (refusal : Refusal) (r : Result ℕ Refusal)
+    → Exit refusal r → number refusal ≡ n → changed_outcome count r areas pages ≡ reply_by (tables areas pages count) n after
+exits areas pages count n after refusal r x e =
+    let p = err_from_is_err_and r x in
+    rw (p.1, p.2, ← e) (reply_refused _ _ _ (refusal_some refusal))
+
+-- one of the tests applies
+stops : {ts : List Test} (us : List Test) → Refuses ts
+    → (refusal : Refusal) → number refusal ≡ answer ts → number refusal ≡ answer (ts ++ us)
+stops us refuses refusal e = e ∙ sym (answer_stops us refuses (λ z. refusal_some refusal (e ∙ z)))
+
+module _ {ts : List Test} (refuses : Refuses ts) (z : 0 ≡ answer ts) (before after : Tables) (areas : List ℕ) (list : List Area) where
+  lacks_room : capacity_of (length areas) < length list
+      → reply 6 before ≡ reply_by before (answer (ts ++ (no_room areas list ∷ []))) after
+  lacks_room h = reply_suc _ _ _ 5 (answer_then _ refuses (sym z) ∙ room_no areas list h)
+
+  goes_on : length list ≤ capacity_of (length areas)
+      → reply 0 after ≡ reply_by before (answer (ts ++ (no_room areas list ∷ []))) after
+  goes_on h = reply_zero _ _ _ (answer_then _ refuses (sym z) ∙ room_yes areas list h)
+
+-- what the code needs of a range that the tests accept
+pub range_accepted : (areas pages : List ℕ) (count start size : ℕ) → 0 ≡ range_answer areas pages count start size
+    → Range areas pages count start size
+range_accepted areas pages count start size z = range_is areas pages count start size (sym z)
+
 -- nothing is cut out by an empty range
 nothing_cut : (low high : ℕ) (list : List Area) (pages : List ℕ) → high ≤ low → cut_pages low high list pages ≡ pages
 unfolding cut_pages
 nothing_cut low high list pages h = within_none (on_areas wipes_area list) (low / page_size) (high / page_size) pages (omega arith)
 
+-- a gap in the list that the tests give is one in the lent words
+pub gap_listed : {areas words : List ℕ} {count n low high : ℕ} {g : Gap} → (words ≡ areas) × (n ≡ count)
+    → Cuts (rows words n) low high g → Cuts (rows areas count) low high g
+gap_listed e c = rw (e.0, e.1) at c
+
 -- the numbers of a gap: no sum of them wraps
-pub record GapFits (count low high number : ℕ) : Type 0 where
+pub record GapFits (count low high : ℕ) : Type 0 where
   pub ordered : low ≤ high
   pub inside : high ≤ count
-  pub few : number ≤ 3
   pub small : count ≤ max_areas
 
-pub gap_fits : {areas pages : List ℕ} {count start size low high : ℕ} {g : Gap} {p : Parts} {list : List Area} → Range areas pages count start size
-    → Cuts (rows areas count) low high g → Lays p list → GapFits count g.low g.high p.number
-gap_fits {areas} {pages} {count} r c l =
-    record { ordered = c.ordered; inside = rw length_rows at c.inside; few = l.few; small = (range_small r).areas }
+pub gap_fits : {areas pages words : List ℕ} {count start size n low high : ℕ} {g : Gap} → Range areas pages count start size
+    → (words ≡ areas) × (n ≡ count) → Cuts (rows words n) low high g → GapFits count g.low g.high
+gap_fits {count = count} r e c =
+    let cuts = gap_listed e c in
+    record { ordered = cuts.ordered; inside = rw length_rows at cuts.inside; small = (range_small r).areas }
+
+-- what takes a gap's place
+abbrev without : Gap → List Area
+without g = parts_of (g.left ∷ g.right ∷ [])
+
+abbrev around : Gap → Area → List Area
+around g a = parts_of (g.left ∷ Some a ∷ g.right ∷ [])
 
 -- what was in a range does not matter to what is written over it
 write_over : (f : ℕ → ℕ → ℕ) (backend : Backend) (flags first end : ℕ) (pages : List ℕ)
@@ -92,26 +138,27 @@ write_over f backend flags first end pages =
 
 -- ---- unmap
 
-module _ (areas pages : List ℕ) (count start size n : ℕ) (e : n ≡ range_answer areas pages count start size) where
-  pub unmap_refused : (n ≡ 0 → ⊥) → reply n (tables areas pages count) ≡ unmap_rule areas pages count start size
-  unfolding unmap_rule
-  unmap_refused h =
-      rw (range_stops areas pages count start size (no_room areas (unmap_list areas count start size) ∷ []) (rw e at h), ← e) (reply_refused _ _ _ h)
+module _ (areas pages : List ℕ) (count start size : ℕ) where
+  pub unmap_refused : (refusal : Refusal) (r : Result ℕ Refusal) → Exit refusal r
+      → number refusal ≡ range_answer areas pages count start size → changed_outcome count r areas pages ≡ unmap_rule areas pages count start size
+  unfolding unmap_rule range_answer
+  unmap_refused refusal r x e = exits areas pages count _ _ refusal r x (stops _ (range_refuses areas pages count start size) refusal e)
 
-  module _ (z : n ≡ 0) where
+  module _ (z : 0 ≡ range_answer areas pages count start size) where
     range : Range areas pages count start size
-    range = range_is areas pages count start size (sym e ∙ z)
+    range = range_accepted areas pages count start size z
 
     good : GoodTables areas count (length pages)
     good = tables_are areas count (length pages) range.tables
 
-    after : answer (unmap_tests areas pages count start size) ≡ answer (no_room areas (unmap_list areas count start size) ∷ [])
-    after = range_then areas pages count start size (no_room areas (unmap_list areas count start size) ∷ []) (sym e ∙ z)
+    unmap_goes : (after : Tables) → length (unmap_list areas count start size) ≤ capacity_of (length areas)
+        → reply 0 after ≡ reply_by (tables areas pages count) (answer (unmap_tests areas pages count start size)) after
+    unfolding range_answer
+    unmap_goes after h = goes_on (range_refuses areas pages count start size) z _ after areas (unmap_list areas count start size) h
 
-    pub unmap_nothing : size ≡ 0 → reply n (tables areas pages count) ≡ unmap_rule areas pages count start size
+    pub unmap_nothing : size ≡ 0 → changed_outcome count (Ok count) areas pages ≡ unmap_rule areas pages count start size
     unfolding unmap_rule
-    unmap_nothing s =
-        rw z (ap (reply 0) (sym value) ∙ reply_zero _ _ _ (after ∙ room_yes areas (unmap_list areas count start size) (rw (list, length_rows areas count) good.count_few)))
+    unmap_nothing s = ap (reply 0) (sym value) ∙ unmap_goes _ (rw (list, length_rows areas count) good.count_few)
       where
         list : unmap_list areas count start size ≡ rows areas count
         list = cut_empty start (start + size) (rows areas count) (omega arith)
@@ -119,50 +166,46 @@ module _ (areas pages : List ℕ) (count start size n : ℕ) (e : n ≡ range_an
         value : listed (unmap_list areas count start size) areas (cut_pages start (start + size) (rows areas count) pages) count ≡ tables areas pages count
         value = rw (list, store_same (sorted good), length_rows areas count, nothing_cut start (start + size) (rows areas count) pages (omega arith))
 
-    module _ (some : 0 < size) (g : Gap) (c : Cuts (rows areas count) start (start + size) g) (p : Parts) (l : Lays p (piece_of g.left ++ piece_of g.right)) where
-      list_is : spliced (rows areas count) g.low g.high (parts_of p) ≡ unmap_list areas count start size
-      list_is = gap_cut (rows areas count) start (start + size) good.ordered (omega arith) g c p l
+    module _ (some : 0 < size) (g : Gap) (c : Cuts (rows areas count) start (start + size) g) (new : ℕ) (k : new ≡ length (without g)) where
+      list_is : spliced (rows areas count) g.low g.high (without g) ≡ unmap_list areas count start size
+      list_is = gap_cut (rows areas count) start (start + size) good.ordered (omega arith) g c (g.left ∷ g.right ∷ []) (both_sides g.left g.right)
 
-      pub unmap_count : length (unmap_list areas count start size) ≡ g.low + p.number + (count - g.high)
+      pub unmap_count : length (unmap_list areas count start size) ≡ g.low + new + (count - g.high)
       unmap_count =
           ap length (sym list_is)
-          ∙ length_spliced (rows areas count) g.low g.high (parts_of p) c.ordered c.inside
-          ∙ rw (length_parts p l.few, length_rows areas count)
+          ∙ length_spliced (rows areas count) g.low g.high (without g) c.ordered c.inside
+          ∙ rw (k, length_rows areas count)
 
-      pub unmap_no_room : capacity_of (length areas) < g.low + p.number + (count - g.high) → reply 6 (tables areas pages count) ≡ unmap_rule areas pages count start size
-      unfolding unmap_rule
-      unmap_no_room h = reply_suc _ _ _ 5 (after ∙ room_no areas (unmap_list areas count start size) (rw unmap_count h))
+      pub unmap_no_room : capacity_of (length areas) < g.low + new + (count - g.high)
+          → changed_outcome count (Err NoRoom) areas pages ≡ unmap_rule areas pages count start size
+      unfolding unmap_rule range_answer
+      unmap_no_room h = lacks_room (range_refuses areas pages count start size) z _ _ areas (unmap_list areas count start size) (rw unmap_count h)
 
-      pub unmap_done : (areas' pages' : List ℕ) (count' : ℕ) → g.low + p.number + (count - g.high) ≤ capacity_of (length areas)
-          → areas' ≡ store (spliced (rows areas count) g.low g.high (parts_of p)) areas count
-          → pages' ≡ cut_pages start (start + size) (rows areas count) pages → count' ≡ g.low + p.number + (count - g.high)
-          → reply n (tables areas' pages' count') ≡ unmap_rule areas pages count start size
+      pub unmap_done : (areas' pages' : List ℕ) (count' : ℕ) → g.low + new + (count - g.high) ≤ capacity_of (length areas)
+          → areas' ≡ store (spliced (rows areas count) g.low g.high (without g)) areas count
+          → pages' ≡ cut_pages start (start + size) (rows areas count) pages → count' ≡ g.low + length (without g) + (count - g.high)
+          → changed_outcome count (Ok count') areas' pages' ≡ unmap_rule areas pages count start size
       unfolding unmap_rule
-      unmap_done areas' pages' count' h a b d =
-          rw (z, a, b, d, ← unmap_count, list_is)
-          (reply_zero _ _ _ (after ∙ room_yes areas (unmap_list areas count start size) (rw unmap_count h)))
+      unmap_done areas' pages' count' h a b d = rw (a, b, d, ← k, ← unmap_count, list_is) (unmap_goes _ (rw unmap_count h))
 
 -- ---- clear
 
-pub none_laid : {p : Parts} → Lays p [] → p.number ≡ 0
-none_laid {p} l = sym (length_parts p l.few) ∙ ap length l.areas
-
 module _ (areas pages : List ℕ) (count : ℕ) where
-  pub clear_refused : good_tables areas count (length pages) ≡ false → reply 1 (tables areas pages count) ≡ clear_rule areas pages count
+  pub clear_refused : (refusal : Refusal) (r : Result ℕ Refusal) → Exit refusal r
+      → number refusal ≡ tables_answer areas pages count → changed_outcome count r areas pages ≡ clear_rule areas pages count
   unfolding clear_rule
-  clear_refused g = reply_suc _ _ _ 0 (tables_bad areas pages count g)
+  clear_refused refusal r x e = exits areas pages count _ _ refusal r x e
 
-  pub clear_done : good_tables areas count (length pages) ≡ true → (p : Parts) → Lays p []
-      → (areas' pages' : List ℕ) (count' : ℕ) → areas' ≡ store (spliced (rows areas count) 0 count (parts_of p)) areas count
-      → pages' ≡ cut_pages 0 (space_of (length pages)) (rows areas count) pages → count' ≡ 0 + p.number + (count - count)
-      → reply 0 (tables areas' pages' count') ≡ clear_rule areas pages count
+  pub clear_done : tables_answer areas pages count ≡ 0
+      → (areas' pages' : List ℕ) (count' : ℕ) → areas' ≡ store (spliced (rows areas count) 0 count []) areas count
+      → pages' ≡ cut_pages 0 (space_of (length pages)) (rows areas count) pages → count' ≡ 0 + 0 + (count - count)
+      → changed_outcome count (Ok count') areas' pages' ≡ clear_rule areas pages count
   unfolding clear_rule
-  clear_done g p l areas' pages' count' a b c =
-      rw (a, b, counted, l.areas, drop_of_length-le (rows areas count) {i = count} (omega (arith, length_rows areas count)))
-      (reply_zero _ _ _ (tables_good areas pages count g))
+  clear_done g areas' pages' count' a b c =
+      rw (a, b, counted, drop_of_length-le (rows areas count) {i = count} (omega (arith, length_rows areas count))) (reply_zero _ _ _ g)
     where
       counted : count' ≡ 0
-      counted = c ∙ omega (arith, none_laid l)
+      counted = c ∙ omega arith
 
 -- ---- map: the tests before the one for room, each section adding that one more did not apply
 
@@ -181,6 +224,12 @@ module _ (areas pages : List ℕ) (count start size flags : ℕ) (backend : Back
   pub map_range : (range_answer areas pages count start size ≡ 0 → ⊥) → map_first ≡ range_answer areas pages count start size
   unfolding map_first_answer more_tests
   map_range h = range_stops areas pages count start size more_tests h
+
+  -- the exit of the range's tests
+  pub map_stops : (refusal : Refusal) → number refusal ≡ range_answer areas pages count start size
+      → number refusal ≡ map_first
+  unfolding map_first_answer range_answer
+  map_stops refusal e = stops _ (range_refuses areas pages count start size) refusal e
 
   module _ (z : range_answer areas pages count start size ≡ 0) where
     others : map_first ≡ answer more_tests
@@ -210,15 +259,18 @@ module _ (areas pages : List ℕ) (count start size flags : ℕ) (backend : Back
           unfolding more_tests answer
           map_passes h = others ∙ rw (ne_eqb size 0 s, le-ltb max_flags flags f, x, h)
 
+  -- the exits of the tests
+  pub ruleset map_exits = (map_stops, map_empty, map_flags, map_exists, map_frames, map_passes)
+
   -- what passing them tells
   pub record MapPassed : Type 0 where
     pub range : Range areas pages count start size
     pub some : 0 < size
 
-  pub map_passed : map_first ≡ 0 → MapPassed
+  pub map_passed : 0 ≡ map_first → MapPassed
   map_passed e =
       elim (ℕ_discrete (range_answer areas pages count start size) 0) [
-        | no h ↦ absurd (h (sym (map_range h) ∙ e))
+        | no h ↦ absurd (h (sym (e ∙ map_range h)))
         | yes z ↦ elim (ℕ_discrete size 0) [
           | yes s ↦ absurd (let f : map_first ≡ 3 = map_empty z s in omega arith)
           | no s ↦ record { range = range_is areas pages count start size z; some = omega arith }
@@ -235,46 +287,41 @@ module _ (areas pages : List ℕ) (count start size flags : ℕ) (backend : Back
   abbrev new_area : Area
   new_area = mapped start size flags backend
 
-  abbrev room_test : List Test
-  room_test = no_room areas (map_list areas count new_area) ∷ []
+  pub map_refused : (refusal : Refusal) (r : Result ℕ Refusal) → Exit refusal r
+      → number refusal ≡ map_first → changed_outcome count r areas pages ≡ map_rule areas pages count start size flags backend replace
+  unfolding map_rule map_first_answer
+  map_refused refusal r x e = exits areas pages count _ _ refusal r x (stops _ first_refuses refusal e)
 
-  module _ (n : ℕ) (e : n ≡ map_first) where
-    pub map_refused : (n ≡ 0 → ⊥) → reply n (tables areas pages count) ≡ map_rule areas pages count start size flags backend replace
-    unfolding map_rule map_first_answer
-    map_refused h = rw (answer_stops room_test first_refuses (rw e at h), ← e) (reply_refused _ _ _ h)
+  module _ (z : 0 ≡ map_first) where
+    passed : MapPassed
+    passed = map_passed z
 
-    module _ (z : n ≡ 0) where
-      after_first : answer (map_tests areas pages count start size flags backend replace) ≡ answer room_test
-      unfolding map_first_answer
-      after_first = answer_then room_test first_refuses (sym e ∙ z)
+    module _ (g : Gap) (c : Cuts (rows areas count) start (start + size) g) (new : ℕ) (k : new ≡ length (around g new_area)) where
+      map_list_lem : spliced (rows areas count) g.low g.high (around g new_area) ≡ map_list areas count new_area
+      map_list_lem =
+          gap_insert (rows areas count) start (start + size) (tables_are areas count (length pages) passed.range.tables).ordered (omega (arith, passed.some)) g c
+          (g.left ∷ Some new_area ∷ g.right ∷ []) new_area refl (sides_around new_area g.left g.right)
 
-      passed : MapPassed
-      passed = map_passed (sym e ∙ z)
+      map_count : length (map_list areas count new_area) ≡ g.low + new + (count - g.high)
+      map_count =
+          ap length (sym map_list_lem)
+          ∙ length_spliced (rows areas count) g.low g.high (around g new_area) c.ordered c.inside
+          ∙ rw (k, length_rows areas count)
 
-      module _ (g : Gap) (c : Cuts (rows areas count) start (start + size) g) (p : Parts) (l : Lays p (piece_of g.left ++ (new_area ∷ piece_of g.right))) where
-        map_list_lem : spliced (rows areas count) g.low g.high (parts_of p) ≡ map_list areas count new_area
-        map_list_lem =
-            gap_insert (rows areas count) start (start + size) (tables_are areas count (length pages) passed.range.tables).ordered (omega (arith, passed.some)) g c new_area p refl l
+      pub map_no_room : capacity_of (length areas) < g.low + new + (count - g.high)
+          → changed_outcome count (Err NoRoom) areas pages ≡ map_rule areas pages count start size flags backend replace
+      unfolding map_rule map_first_answer
+      map_no_room h = lacks_room first_refuses z _ _ areas (map_list areas count new_area) (rw map_count h)
 
-        map_count : length (map_list areas count new_area) ≡ g.low + p.number + (count - g.high)
-        map_count =
-            ap length (sym map_list_lem)
-            ∙ length_spliced (rows areas count) g.low g.high (parts_of p) c.ordered c.inside
-            ∙ rw (length_parts p l.few, length_rows areas count)
-
-        pub map_no_room : capacity_of (length areas) < g.low + p.number + (count - g.high) → reply 6 (tables areas pages count) ≡ map_rule areas pages count start size flags backend replace
-        unfolding map_rule
-        map_no_room h = reply_suc _ _ _ 5 (after_first ∙ room_no areas (map_list areas count new_area) (rw map_count h))
-
-        pub map_done : (areas' pages' : List ℕ) (count' : ℕ) → g.low + p.number + (count - g.high) ≤ capacity_of (length areas)
-            → areas' ≡ store (spliced (rows areas count) g.low g.high (parts_of p)) areas count
-            → pages' ≡ within (writes backend flags) (start / page_size) ((start + size) / page_size) pages → count' ≡ g.low + p.number + (count - g.high)
-            → reply n (tables areas' pages' count') ≡ map_rule areas pages count start size flags backend replace
-        unfolding map_rule map_pages cut_pages
-        map_done areas' pages' count' h a b d =
-            rw (z, a, b, d, ← map_count, map_list_lem)
-            (ap (reply 0) (ap (λ (ps : List ℕ). listed (map_list areas count new_area) areas ps count) (sym (write_over (on_areas wipes_area (rows areas count)) backend flags (start / page_size) ((start + size) / page_size) pages)))
-            ∙ reply_zero _ _ _ (after_first ∙ room_yes areas (map_list areas count new_area) (rw map_count h)))
+      pub map_done : (areas' pages' : List ℕ) (count' : ℕ) → g.low + new + (count - g.high) ≤ capacity_of (length areas)
+          → areas' ≡ store (spliced (rows areas count) g.low g.high (around g new_area)) areas count
+          → pages' ≡ within (writes backend flags) (start / page_size) ((start + size) / page_size) pages → count' ≡ g.low + length (around g new_area) + (count - g.high)
+          → changed_outcome count (Ok count') areas' pages' ≡ map_rule areas pages count start size flags backend replace
+      unfolding map_rule map_pages cut_pages map_first_answer
+      map_done areas' pages' count' h a b d =
+          rw (a, b, d, ← k, ← map_count, map_list_lem)
+          (ap (reply 0) (ap (λ (ps : List ℕ). listed (map_list areas count new_area) areas ps count) (sym (write_over (on_areas wipes_area (rows areas count)) backend flags (start / page_size) ((start + size) / page_size) pages)))
+          ∙ goes_on first_refuses z _ _ areas (map_list areas count new_area) (rw map_count h))
 
 -- ---- protect
 
@@ -292,6 +339,12 @@ module _ (areas pages : List ℕ) (count start size set clear : ℕ) where
   pub protect_range : (range_answer areas pages count start size ≡ 0 → ⊥) → protect_first ≡ range_answer areas pages count start size
   unfolding protect_first_answer flag_tests
   protect_range h = range_stops areas pages count start size flag_tests h
+
+  -- the exit of the range's tests
+  pub protect_stops : (refusal : Refusal) → number refusal ≡ range_answer areas pages count start size
+      → number refusal ≡ protect_first
+  unfolding protect_first_answer range_answer
+  protect_stops refusal e = stops _ (range_refuses areas pages count start size) refusal e
 
   module _ (z : range_answer areas pages count start size ≡ 0) where
     after_range : protect_first ≡ answer flag_tests
@@ -311,16 +364,19 @@ module _ (areas pages : List ℕ) (count start size set clear : ℕ) where
       unfolding flag_tests answer
       protect_passes h = after_range ∙ rw (le-ltb max_flags set s, le-ltb max_flags clear h)
 
+  -- the exits of the tests
+  pub ruleset protect_exits = (protect_stops, protect_set, protect_clear, protect_passes)
+
   -- what passing the tests tells
   pub record ProtectPassed : Type 0 where
     pub range : Range areas pages count start size
     pub set_legal : set ≤ max_flags
     pub clear_legal : clear ≤ max_flags
 
-  pub protect_passed : protect_first ≡ 0 → ProtectPassed
+  pub protect_passed : 0 ≡ protect_first → ProtectPassed
   protect_passed e =
       elim (ℕ_discrete (range_answer areas pages count start size) 0) [
-        | no h ↦ absurd (h (sym (protect_range h) ∙ e))
+        | no h ↦ absurd (h (sym (e ∙ protect_range h)))
         | yes z ↦ elim (dec_le set max_flags) [
           | no s ↦ absurd (let f : protect_first ≡ 3 = protect_set z (omega arith) in omega arith)
           | yes s ↦ elim (dec_le clear max_flags) [
@@ -333,41 +389,38 @@ module _ (areas pages : List ℕ) (count start size set clear : ℕ) where
   flags_refuse : Refuses (protect_first_tests areas pages count start size set clear)
   flags_refuse = one_test 1 _ (omega arith) (one_test 2 _ (omega arith) (one_test 3 _ (omega arith) (one_test 3 _ (omega arith) (one_test 3 _ (omega arith) no_test))))
 
-  abbrev protect_room : List Test
-  protect_room = no_room areas (protect_list areas count start size set clear) ∷ []
+  pub protect_refused : (refusal : Refusal) (r : Result ℕ Refusal) → Exit refusal r
+      → number refusal ≡ protect_first → changed_outcome count r areas pages ≡ protect_rule areas pages count start size set clear
+  unfolding protect_rule protect_first_answer
+  protect_refused refusal r x e = exits areas pages count _ _ refusal r x (stops _ flags_refuse refusal e)
 
-  module _ (n : ℕ) (e : n ≡ protect_first) where
-    pub protect_refused : (n ≡ 0 → ⊥) → reply n (tables areas pages count) ≡ protect_rule areas pages count start size set clear
+  module _ (z : 0 ≡ protect_first) where
+    pub protect_no_room : capacity_of (length areas) < length (protect_list areas count start size set clear)
+        → changed_outcome count (Err NoRoom) areas pages ≡ protect_rule areas pages count start size set clear
     unfolding protect_rule protect_first_answer
-    protect_refused h = rw (answer_stops protect_room flags_refuse (rw e at h), ← e) (reply_refused _ _ _ h)
+    protect_no_room h = lacks_room flags_refuse z _ _ areas (protect_list areas count start size set clear) h
 
-    module _ (z : n ≡ 0) where
-      after_flags : answer (protect_tests areas pages count start size set clear) ≡ answer protect_room
-      unfolding protect_first_answer
-      after_flags = answer_then protect_room flags_refuse (sym e ∙ z)
+    protect_goes : (after : Tables) → length (protect_list areas count start size set clear) ≤ capacity_of (length areas)
+        → reply 0 after ≡ reply_by (tables areas pages count) (answer (protect_tests areas pages count start size set clear)) after
+    unfolding protect_first_answer
+    protect_goes after h = goes_on flags_refuse z _ after areas (protect_list areas count start size set clear) h
 
-      pub protect_no_room : capacity_of (length areas) < length (protect_list areas count start size set clear) → reply 6 (tables areas pages count) ≡ protect_rule areas pages count start size set clear
-      unfolding protect_rule
-      protect_no_room h = reply_suc _ _ _ 5 (after_flags ∙ room_no areas (protect_list areas count start size set clear) h)
+    pub protect_done : (areas' pages' : List ℕ) (count' : ℕ) → length (protect_list areas count start size set clear) ≤ capacity_of (length areas)
+        → areas' ≡ store (protect_list areas count start size set clear) areas count
+        → pages' ≡ protect_pages start (start + size) set clear (rows areas count) pages → count' ≡ length (protect_list areas count start size set clear)
+        → changed_outcome count (Ok count') areas' pages' ≡ protect_rule areas pages count start size set clear
+    unfolding protect_rule
+    protect_done areas' pages' count' h a b d = rw (a, b, d) (protect_goes _ h)
 
-      pub protect_done : (areas' pages' : List ℕ) (count' : ℕ) → length (protect_list areas count start size set clear) ≤ capacity_of (length areas)
-          → areas' ≡ store (protect_list areas count start size set clear) areas count
-          → pages' ≡ protect_pages start (start + size) set clear (rows areas count) pages → count' ≡ length (protect_list areas count start size set clear)
-          → reply n (tables areas' pages' count') ≡ protect_rule areas pages count start size set clear
-      unfolding protect_rule
-      protect_done areas' pages' count' h a b d =
-          rw (z, a, b, d) (reply_zero _ _ _ (after_flags ∙ room_yes areas (protect_list areas count start size set clear) h))
+    pub protect_nothing : size ≡ 0 → changed_outcome count (Ok count) areas pages ≡ protect_rule areas pages count start size set clear
+    unfolding protect_rule
+    protect_nothing s = ap (reply 0) (sym value) ∙ protect_goes _ (rw (list, length_rows areas count) good_now_lem.count_few)
+      where
+        good_now_lem : GoodTables areas count (length pages)
+        good_now_lem = tables_are areas count (length pages) (protect_passed z).range.tables
 
-      pub protect_nothing : size ≡ 0 → reply n (tables areas pages count) ≡ protect_rule areas pages count start size set clear
-      unfolding protect_rule
-      protect_nothing s =
-          rw z (ap (reply 0) (sym value) ∙ reply_zero _ _ _ (after_flags ∙ room_yes areas (protect_list areas count start size set clear) (rw (list, length_rows areas count) good_now_lem.count_few)))
-        where
-          good_now_lem : GoodTables areas count (length pages)
-          good_now_lem = tables_are areas count (length pages) (protect_passed (sym e ∙ z)).range.tables
+        list : protect_list areas count start size set clear ≡ rows areas count
+        list = protect_empty start (start + size) set clear (rows areas count) (omega arith)
 
-          list : protect_list areas count start size set clear ≡ rows areas count
-          list = protect_empty start (start + size) set clear (rows areas count) (omega arith)
-
-          value : listed (protect_list areas count start size set clear) areas (protect_pages start (start + size) set clear (rows areas count) pages) count ≡ tables areas pages count
-          value = rw (list, store_same (sorted good_now_lem), length_rows areas count, nothing_flagged start (start + size) set clear (rows areas count) pages (omega arith))
+        value : listed (protect_list areas count start size set clear) areas (protect_pages start (start + size) set clear (rows areas count) pages) count ≡ tables areas pages count
+        value = rw (list, store_same (sorted good_now_lem), length_rows areas count, nothing_flagged start (start + size) set clear (rows areas count) pages (omega arith))

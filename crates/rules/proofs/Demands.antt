@@ -5,14 +5,15 @@ use mathlib.Core.Path.{◌≡◌, refl, ◌∙◌}
 use mathlib.Core.Bool.{Bool, true, false, cond}
 use mathlib.Core.List.{List}
 use native.Mathlib.Omega.{arith}
+use Rattle.std.specs.Prelude.{Result}
 use Rattle.area.specs.Answer.{answer, Test, Reply, reply, reply_by}
 use Rattle.area.specs.declared.Area.{Area}
+use Rattle.area.specs.declared.Refusal.{Refusal}
 use Rattle.area.proofs.Answers.{reply_answer, one_outcome}
 use Rattle.search.specs.Free.{Ask, FreeOutcome, free_rule, is_free, lowest_free, free_gives}
 use Rattle.questions.specs.Tests.{tables_answer, range_answer}
 use Rattle.questions.specs.Question.{len_rule, empty_rule, overlaps_rule, find_answer, find_rule, search_tests, search_answer, placed_by, free_area_rule}
-use Rattle.rules.specs.Change.{Tables, tables, changed_outcome, unmap_rule, clear_rule, map_rule, protect_rule}
-use Rattle.rules.specs.declared.Changed.{Changed}
+use Rattle.rules.specs.Change.{Tables, changed_outcome, unmap_rule, clear_rule, map_rule, protect_rule}
 use Rattle.rules.specs.Calls.{Call, len_call, empty_call, overlaps_call, find_call, entries_call, search_call, map_call, unmap_call, clear_call, protect_call, called}
 use Rattle.questions.proofs.Answering.{Refuses, no_test, one_test, answer_known, range_refuses}
 
@@ -93,17 +94,16 @@ all_or_nothing (protect_call start size set clear) t =
 
 -- ---- no second outcome: what a change's promise says fixes the result and every word of both tables
 
-pub record Same (r s : Changed) (areas areas' pages pages' : List ℕ) : Type 0 where
+pub record Same (r s : Result ℕ Refusal) (areas areas' pages pages' : List ℕ) : Type 0 where
   pub results : r ≡ s
   pub area_words : areas ≡ areas'
   pub page_entries : pages ≡ pages'
 
-pub changed_unique : (r s : Changed) (areas areas' pages pages' : List ℕ) → changed_outcome r areas pages ≡ changed_outcome s areas' pages'
-    → Same r s areas areas' pages pages'
-changed_unique r s areas areas' pages pages' e =
-    let u = one_outcome r.answer s.answer (tables areas pages r.count) (tables areas' pages' s.count) e in
+pub changed_unique : (old : ℕ) (r s : Result ℕ Refusal) (areas areas' pages pages' : List ℕ)
+    → changed_outcome old r areas pages ≡ changed_outcome old s areas' pages' → Same r s areas areas' pages pages'
+changed_unique old r s areas areas' pages pages' e =
     record {
-      results = λ i. record { answer = u.answers i; count = (u.values i).count };
-      area_words = λ i. (u.values i).areas;
-      page_entries = λ i. (u.values i).pages;
+      results = one_outcome old r s (λ i. reply (e i).answer (e i).value.count);
+      area_words = λ i. (e i).value.areas;
+      page_entries = λ i. (e i).value.pages;
     }

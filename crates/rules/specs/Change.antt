@@ -1,12 +1,13 @@
 -- The calls that change the tables (01, "The calls"). Each rule is total: an answer number, which is the first test that applies,
 -- and the tables afterwards. "A refusal writes nothing and returns the old count".
 -- Laws: `proofs/Changing.antt`. Assumes nothing.
-use Rattle.std.specs.Prelude.{ℕ, ◌+◌, ◌/◌, Bool, not, ◌&&◌, List, [], ◌∷◌, ◌++◌, ltb, eqb, length}
+use Rattle.std.specs.Prelude.{ℕ, ◌+◌, ◌/◌, Bool, not, ◌&&◌, List, [], ◌∷◌, ◌++◌, ltb, eqb, length, Result}
 use Rattle.page_table.specs.Limits.{page_size, max_flags}
 use Rattle.page_table.specs.Frames.{backend_fits}
 use Rattle.page_table.specs.declared.Backend.{Backend}
-use Rattle.area.specs.Answer.{number, Test, refuse, answer, Reply, reply, reply_by}
+use Rattle.area.specs.Answer.{Test, refuse, answer, Reply, reply, reply_by, outcome}
 use Rattle.area.specs.declared.Area.{Area}
+use Rattle.area.specs.declared.Refusal.{Refusal}
 use Rattle.area_list.specs.Layout.{capacity_of, rows}
 use Rattle.area_list.specs.Good.{space_of}
 use Rattle.area_list.specs.Meet.{shares_any}
@@ -14,7 +15,6 @@ use Rattle.area_list.specs.Store.{store}
 use Rattle.effects.specs.Lists.{cut, insert, protect}
 use Rattle.effects.specs.Pages.{cut_pages, map_pages, protect_pages}
 use Rattle.questions.specs.Tests.{tables_answer, range_tests}
-use Rattle.rules.specs.declared.Changed.{Changed}
 
 -- both tables and the count
 pub record Tables : Type 0 where
@@ -25,8 +25,9 @@ pub record Tables : Type 0 where
 abbrev pub tables : List ℕ → List ℕ → ℕ → Tables
 tables areas pages count = record { areas = areas; pages = pages; count = count }
 
-abbrev pub changed_outcome : Changed → List ℕ → List ℕ → Reply Tables
-changed_outcome r areas pages = reply (number r.answer) (tables areas pages r.count)
+-- what a change answers, and the tables afterwards: in a refusal the count is the old one
+abbrev pub changed_outcome : ℕ → Result ℕ Refusal → List ℕ → List ℕ → Reply Tables
+changed_outcome old r areas pages = reply (outcome old r).answer (tables areas pages (outcome old r).value)
 
 -- the tables after a new list of areas went in
 abbrev pub listed : List Area → List ℕ → List ℕ → ℕ → Tables

@@ -1,20 +1,22 @@
 -- Laws of a step: the line of an answer, a request's outcome from its change and its line, that no line is too long, and that there
 -- is no second outcome. Assumes nothing.
 use Prim.Native.Nat.{ℕ, zero, suc, ◌≤◌}
-use mathlib.Core.Path.{◌≡◌, refl, ap}
+use mathlib.Core.Path.{◌≡◌, refl, ap, ◌∙◌}
 use mathlib.Core.Bool.{cond}
 use mathlib.Core.List.{List}
 use native.Mathlib.Omega.{arith}
 use lib.ListN.{length}
 use mathlib.Core.Bool.{Bool}
 use Rattle.page_table.specs.declared.Backend.{Backend}
+use Rattle.std.specs.Prelude.{Result, Ok, Err, IsErrAnd, MatchResult}
 use Rattle.area.specs.Answer.{number, Reply, reply}
-use Rattle.area.specs.declared.Answer.{Answer}
+use Rattle.area.specs.declared.Refusal.{Refusal}
+use Rattle.area.proofs.Answers.{refusal_some}
 use Rattle.rules.specs.Change.{Tables}
 use Rattle.questions.specs.Question.{overlaps_rule}
 use Rattle.lines.specs.Line.{no_line, longest_line, line_bytes}
 use Rattle.lines.proofs.Lines.{line_short}
-use Rattle.runs.specs.Step.{ran, step_outcome, answer_line, changed_ran, run_rule, step_rule, change_rule, asked_line}
+use Rattle.runs.specs.Step.{ran, step_outcome, result_line, answer_line, changed_ran, run_rule, step_rule, change_rule, asked_line}
 use Rattle.runs.specs.declared.Stepped.{Stepped}
 use Rattle.lines.specs.declared.Line.{Line}
 use Rattle.lines.specs.declared.Line.TheVariants as line
@@ -22,19 +24,30 @@ use Rattle.requests.specs.Request.{request_of}
 use Rattle.requests.specs.declared.Request.{Request}
 use Rattle.requests.specs.declared.Request.TheVariants as request
 
-pub accepted_line : (n : ℕ) (line : List ℕ) → n ≡ 0 → line ≡ answer_line n line
-unfolding answer_line
-accepted_line zero line e = refl
-accepted_line (suc n) line e = absurd (omega arith)
-
 no_line_lem : (n : ℕ) (line : List ℕ) → (n ≡ 0 → ⊥) → no_line n ≡ answer_line n line
 unfolding answer_line
 no_line_lem zero line z = absurd (z refl)
 no_line_lem (suc n) line z = refl
 
-pub refused_line : (answer : Answer) (said : List ℕ) → (number answer ≡ 0 → ⊥) → line_bytes (line.No answer) ≡ answer_line (number answer) said
+pub accepted_line : {said line : List ℕ} → said ≡ line → said ≡ answer_line 0 line
+unfolding answer_line
+accepted_line e = e
+
+pub refused_line : (refusal : Refusal) (line : List ℕ) → no_line (number refusal) ≡ answer_line (number refusal) line
+refused_line refusal line = no_line_lem (number refusal) line (refusal_some refusal)
+
+-- what is said of an answer
+pub result_spoken : (answer : Result Line Refusal) (said : Line)
+    → MatchResult answer (λ l. said ≡ l) (λ r. said ≡ line.No r) → line_bytes said ≡ result_line answer
 unfolding line_bytes
-refused_line answer said z = no_line_lem (number answer) said z
+result_spoken (Ok l) said e = ap line_bytes e
+result_spoken (Err r) said e = rw e
+
+-- the exit of a `?`
+pub asked_refused : (answer : Result Line Refusal) (refusal : Refusal) (line : List ℕ) {rule : List ℕ} → IsErrAnd answer (λ r. r ≡ refusal)
+    → answer_line (number refusal) line ≡ rule → result_line answer ≡ rule
+asked_refused (Ok l) refusal line h e = absurd h
+asked_refused (Err r) refusal line h e = rw h (refused_line refusal line ∙ e)
 
 -- ---- the change
 

@@ -1,13 +1,15 @@
 -- What one record does to the tables, and the line it is answered with (01, "The record program"), from the rules of the set.
 -- Laws: `proofs/Steps.antt`. Assumes nothing.
-use Rattle.std.specs.Prelude.{ℕ, zero, suc, Bool, cond, List}
-use Rattle.area.specs.Answer.{Reply, reply}
+use Rattle.std.specs.Prelude.{ℕ, zero, suc, Bool, cond, List, Result, Ok, Err}
+use Rattle.area.specs.Answer.{number, Reply, reply}
 use Rattle.area.specs.declared.Area.{Area}
+use Rattle.area.specs.declared.Refusal.{Refusal}
 use Rattle.rules.specs.Change.{Tables, tables, map_rule, unmap_rule, clear_rule, protect_rule}
 use Rattle.questions.specs.Question.{find_rule, overlaps_rule, free_area_rule}
 use Rattle.lines.specs.Line.{no_line, line_bytes}
 use Rattle.requests.specs.Request.{request_of}
 use Rattle.runs.specs.declared.Stepped.{Stepped}
+use Rattle.lines.specs.declared.Line.{Line}
 use Rattle.lines.specs.declared.Line.TheVariants as line
 use Rattle.requests.specs.declared.Request.{Request}
 use Rattle.requests.specs.declared.Request.TheVariants as request
@@ -27,6 +29,10 @@ step_outcome r areas pages = ran (tables areas pages r.count) (line_bytes r.line
 unfoldable pub answer_line : ℕ → List ℕ → List ℕ
 answer_line zero line = line
 answer_line (suc k) line = no_line (suc k)
+
+abbrev pub result_line : Result Line Refusal → List ℕ
+result_line (Ok line) = line_bytes line
+result_line (Err refusal) = no_line (number refusal)
 
 -- "`ok`"
 abbrev pub changed_ran : Reply Tables → Ran

@@ -2,15 +2,12 @@
 #![tactic(auto)]
 
 ghost use Rattle.std.specs.Prelude.{◌≡◌, cond};
-ghost use Rattle.area.specs.Answer.{number};
 ghost use Rattle.rules.specs.Change.{tables, changed_outcome};
-ghost use Rattle.lines.specs.Line.{line_bytes};
-ghost use Rattle.runs.specs.Step.{step_outcome, answer_line, run_rule, step_rule, change_rule, asked_line};
+ghost use Rattle.runs.specs.Step.{step_outcome, result_line, run_rule, step_rule, change_rule, asked_line};
 
-use area::Answer;
+use area::Refusal;
 use lines::Line;
 use requests::{Request, decode};
-use rules::Changed;
 
 // What a request did: the count afterwards, and the line.
 #[derive(Clone, Copy)]
@@ -19,25 +16,14 @@ pub struct Stepped {
     pub line: Line,
 }
 
-// The line of an accepted call, and `no K` of a refused one.
-fn answer_line(answer: Answer, line: Line) -> Line
-    ensures { line_bytes result ≡ answer_line (number answer) (line_bytes line) }
-{
-    if answer.accepted() {
-        return line;
-    }
-    Line::No(answer)
-}
-
-fn overlap_line(yes: bool) -> Line
-    ensures { result ≡ cond yes Line.Over Line.Free }
-{
-    if yes { Line::Over } else { Line::Free }
-}
-
 // Makes the change that a request asks for. A question and a bad request are accepted and change nothing.
-fn change(areas: &mut [u64], pages: &mut [u32], count: usize, request: Request) -> Changed
-    ensures { changed_outcome result areas.new pages.new ≡ change_rule (tables areas.old pages.old count) request }
+fn change(
+    areas: &mut [u64],
+    pages: &mut [u32],
+    count: usize,
+    request: Request,
+) -> Result<usize, Refusal>
+    ensures { changed_outcome count result areas.new pages.new ≡ change_rule (tables areas.old pages.old count) request }
 {
     match request {
         Request::Map {
@@ -55,28 +41,28 @@ fn change(areas: &mut [u64], pages: &mut [u32], count: usize, request: Request) 
             clear,
         } => protect::protect(areas, pages, count, start, size, set, clear),
         Request::Clear => unmap::clear(areas, pages, count),
-        _ => Changed {
-            answer: Answer::Accepted,
-            count,
-        },
+        _ => Ok(count),
     }
 }
 
+fn overlap_line(yes: bool) -> Line
+    ensures { result ≡ cond yes Line.Over Line.Free }
+{
+    if yes { Line::Over } else { Line::Free }
+}
+
 // The line of a request, on the tables that it left: what a question is told, or `ok`, for a change that was accepted.
-fn ask(areas: &[u64], pages: &[u32], count: usize, request: Request) -> Line
-    ensures { line_bytes result ≡ asked_line (tables areas.now pages.now count) request }
+fn ask(areas: &[u64], pages: &[u32], count: usize, request: Request) -> Result<Line, Refusal>
+    ensures { result_line result ≡ asked_line (tables areas.now pages.now count) request }
 {
     match request {
         Request::Find(address) => {
-            let found = questions::find(areas, pages, count, address);
-            let area = found.area;
-            let answer = found.answer;
-            answer_line(answer, Line::In(area.start, area.end))
+            let area = questions::find(areas, pages, count, address)?;
+            Ok(Line::In(area.start, area.end))
         }
         Request::Overlaps { start, size } => {
-            let told = questions::overlaps(areas, pages, count, start, size);
-            let answer = told.answer;
-            answer_line(answer, overlap_line(told.yes))
+            let yes = questions::overlaps(areas, pages, count, start, size)?;
+            Ok(overlap_line(yes))
         }
         Request::Search {
             hint,
@@ -84,14 +70,11 @@ fn ask(areas: &[u64], pages: &[u32], count: usize, request: Request) -> Line
             limit,
             align,
         } => {
-            let placed = free_area::find_free_area(
-                areas, pages, count, hint, size, 0, limit, align,
-            );
-            let answer = placed.answer;
-            answer_line(answer, Line::At(placed.at))
+            let at = free_area::find_free_area(areas, pages, count, hint, size, 0, limit, align)?;
+            Ok(Line::At(at))
         }
-        Request::Bad => Line::Bad,
-        _ => Line::Ok,
+        Request::Bad => Ok(Line::Bad),
+        _ => Ok(Line::Ok),
     }
 }
 
@@ -99,11 +82,16 @@ fn ask(areas: &[u64], pages: &[u32], count: usize, request: Request) -> Line
 pub fn run(areas: &mut [u64], pages: &mut [u32], count: usize, request: Request) -> Stepped
     ensures { step_outcome result areas.new pages.new ≡ run_rule (tables areas.old pages.old count) request }
 {
-    let changed = change(areas, pages, count, request);
-    let answer = changed.answer;
-    let count = changed.count;
-    let line = answer_line(answer, ask(areas, pages, count, request));
-    Stepped { count, line }
+    match change(areas, pages, count, request) {
+        Ok(count) => Stepped {
+            count,
+            line: ask(areas, pages, count, request).unwrap_or_else(Line::No),
+        },
+        Err(refusal) => Stepped {
+            count,
+            line: Line::No(refusal),
+        },
+    }
 }
 
 // Runs one record.

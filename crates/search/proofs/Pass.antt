@@ -2,6 +2,7 @@
 -- Assumes nothing.
 use Prim.Native.Nat.{ℕ, ◌+◌, ◌%◌, ◌^◌, ◌≤◌, ◌<◌, min, max}
 use mathlib.Core.Path.{◌≡◌, sym, ap}
+use mathlib.Core.Bool.{true}
 use mathlib.Core.List.{List}
 use native.Mathlib.Omega.{arith}
 use native.Mathlib.Decide.{dec_lt, ℕ_discrete}
@@ -10,10 +11,15 @@ use lib.ListN.{length, get_or}
 use borrow.Author.Tests.{ltb-false}
 use Rattle.area.specs.Area.{nothing}
 use Rattle.area.specs.declared.Area.{Area}
+use Rattle.area_list.specs.Good.{good_tables, space_of}
+use Rattle.area_list.specs.Layout.{rows}
 use Rattle.area_list.specs.Position.{first_where, ends_past}
+use Rattle.area_list.proofs.Goodness.{tables_are}
 use Rattle.area_list.proofs.Ordered.{Ordered, good_at, starts_rise}
 use Rattle.area_list.proofs.Positions.{first}
-use Rattle.search.specs.Free.{up_to, Ask, LegalSearch, free_gives, free_rule}
+use Rattle.area_list.proofs.Rows.{length_rows}
+use Rattle.search.specs.declared.Wanted.{Wanted}
+use Rattle.search.specs.Free.{up_to, Ask, wanted_in, LegalSearch, free_gives, free_rule}
 use Rattle.search.proofs.Multiples.{steps_apart, up_multiple, up_from, up_lowest}
 use Rattle.search.proofs.Powers.{power_is, power_positive}
 use Rattle.search.proofs.Search.{Fits, none_is, lowest_is}
@@ -41,6 +47,19 @@ align_positive {size} {align} l = power_positive (power_is align l.power)
 
 pub align_fits : {size align : ℕ} → LegalSearch size align → align ≤ size
 align_fits {size} {align} l = omega (arith, steps_apart align 0 size (zero-mod align) l.whole l.some)
+
+-- good tables are such a setting
+pub setting_of : (ws : List ℕ) (count pages : ℕ) (w : Wanted) (last : ℕ) → good_tables ws count pages ≡ true → LegalSearch w.size w.align
+    → last + w.size ≡ min w.high (space_of pages) → Setting (rows ws count) count (wanted_in w (space_of pages)) last
+setting_of ws count pages w last good legal room =
+    let tables = tables_are ws count pages good in
+    record {
+      ordered = tables.ordered;
+      counted = length_rows ws count;
+      small = omega (arith, tables.pages_few);
+      legal = legal;
+      room = room;
+    }
 
 module _ {xs : List Area} {count : ℕ} {q : Ask} {last : ℕ} where
   pub pass_begins : (from at slot : ℕ) → Setting xs count q last → from ≡ max q.hint q.low → at ≡ up_to q.align from

@@ -1,18 +1,20 @@
 -- Laws of powers of two: the number before one masks what is left over, and a number that fits a u64 is one exactly when it has
--- no bit in common with the number before it.
--- Assumes nothing.
-use Prim.Native.Nat.{ℕ, suc, ◌-◌, ◌/◌, ◌%◌, ◌^◌, ◌≤◌, ◌<◌}
+-- no bit in common with the number before it, and exactly when one of its bits is set. Assumes nothing.
+use Prim.Native.Nat.{ℕ, suc, ◌+◌, ◌-◌, ◌*◌, ◌/◌, ◌%◌, ◌^◌, ◌≤◌, ◌<◌}
 use mathlib.Core.Path.{◌≡◌, sym, ◌∙◌}
-use mathlib.Core.Bool.{true, false, true≢false}
+use mathlib.Core.Bool.{true, true≢false}
 use native.Mathlib.Omega.{arith}
 use native.Mathlib.Decide.{dec_lt, ℕ_discrete}
 use native.Mathlib.Nat.{pow-succ', mod_self}
 use lib.Arith.{bin_ind}
 use lib.Bits.{bit_and, and_step, and_self, and_mask}
+use lib.Count.{ones_step, ones_cat, ones-le}
 use lib.Pow.{pow_pos, pow_mono}
 use lib.Dec.{eqb}
 use borrow.Author.Tests.{eq-eqb, ne_eqb, eqb-true}
-use Rattle.lists.proofs.Every.{refuted, by_test, some_yes, some_at}
+use Rattle.std.specs.Prelude.{count_ones}
+use Rattle.std.proofs.lemmas.Nat.{zero_from_ones}
+use Rattle.lists.proofs.Every.{by_test, some_yes, some_at}
 use Rattle.search.specs.Free.{is_power_of_two}
 
 pub record Power (n : ℕ) : Type 0 where
@@ -72,11 +74,38 @@ clears_power =
       | no odd ↦ odd_power n positive clear (omega arith)
     ])
 
-pub not_power : (n : ℕ) → n ≡ 0 → is_power_of_two n ≡ false
-not_power n z = refuted (is_power_of_two n) (λ e. let p = power_positive (power_is n e) in omega arith)
-
 pub power_by_bits : (n : ℕ) → n < 2 ^ 64 → (n ≡ 0 → ⊥) → eqb (bit_and n (n - 1)) 0 ≡ is_power_of_two n
 power_by_bits n small positive =
     by_test (is_power_of_two n)
     (λ e. eq-eqb (bit_and n (n - 1)) 0 (power_clears (power_is n e)) ∙ sym e)
     (λ e. ne_eqb (bit_and n (n - 1)) 0 (λ z. true≢false (sym (is_power n small (clears_power n (omega arith) z)) ∙ e)) ∙ sym e)
+
+-- ---- one bit
+
+no_ones : count_ones 0 ≡ 0
+no_ones = omega (arith, ones-le 0 0 (omega arith))
+
+-- a power of two has one bit
+power_one : {n : ℕ} → Power n → count_ones n ≡ 1
+power_one {n} p =
+    let e : n ≡ 1 * 2 ^ p.exponent + 0 = omega (arith, p.is) in
+    rw e (omega (arith, ones_cat p.exponent 1 0 (pow_pos p.exponent), ones_step 1, no_ones))
+
+-- and a number with one bit is a power of two: an odd one has no other, and an even one's half has it
+one_power : (n : ℕ) → count_ones n ≡ 1 → Power n
+one_power =
+    bin_ind (λ (n : ℕ). count_ones n ≡ 1 → Power n)
+    (λ one. absurd (omega (arith, no_ones)))
+    (λ n half one. elim (ℕ_discrete (n % 2) 0) [
+      | yes even ↦
+          let p = half (omega (arith, ones_step n)) in
+          record { exponent = suc p.exponent; is = omega (arith, p.is, pow-succ' 2 p.exponent) }
+      | no odd ↦ record { exponent = 0; is = omega (arith, ones_step n, zero_from_ones (n / 2) (omega (arith, ones_step n))) }
+    ])
+
+-- the library's test of a number that fits a u64
+pub power_by_ones : (n : ℕ) → n < 2 ^ 64 → eqb (count_ones n) 1 ≡ is_power_of_two n
+power_by_ones n small =
+    by_test (is_power_of_two n)
+    (λ e. eq-eqb (count_ones n) 1 (power_one (power_is n e)) ∙ sym e)
+    (λ e. ne_eqb (count_ones n) 1 (λ one. true≢false (sym (is_power n small (one_power n one)) ∙ e)) ∙ sym e)

@@ -1,12 +1,11 @@
 -- Free-area search (01, "The calls"): "The lowest address that is a multiple of align, at least hint and limit start, with address +
 -- size within limit end and the space, meeting no area." Sums are exact. Laws: `proofs/Search.antt`; of powers of two and
 -- multiples: `proofs/Powers.antt`, `proofs/Multiples.antt`. Assumes nothing.
-use Rattle.std.specs.Prelude.{ℕ, ◌+◌, ◌-◌, ◌*◌, ◌/◌, ◌%◌, ◌^◌, ◌<◌, ◌≡◌, Bool, true, not, cond, List, [], ◌∷◌, leb, eqb}
+use Rattle.std.specs.Prelude.{ℕ, ◌+◌, ◌-◌, ◌*◌, ◌/◌, ◌%◌, ◌^◌, ◌<◌, ◌≡◌, Bool, true, not, cond, List, [], ◌∷◌, Option, Some, None, leb, eqb}
 use Rattle.lists.specs.Every.{every, lowest_of, some_of}
 use Rattle.area.specs.declared.Area.{Area}
 use Rattle.area_list.specs.Meet.{shares_any}
-use Rattle.search.specs.declared.Free.{Free}
-use Rattle.search.specs.declared.Free.TheVariants.{At, Nowhere}
+use Rattle.search.specs.declared.Wanted.{Wanted}
 
 -- one of 2^0 to 2^63
 unfoldable pub is_power_of_two : ℕ → Bool
@@ -27,6 +26,10 @@ pub record Ask : Type 0 where
 
 abbrev pub asked : ℕ → ℕ → ℕ → ℕ → ℕ → ℕ → Ask
 asked hint size low high align space = record { hint = hint; size = size; low = low; high = high; align = align; space = space }
+
+-- the room that is wanted, in a space of so many bytes
+abbrev pub wanted_in : Wanted → ℕ → Ask
+wanted_in w space = asked w.hint w.size w.low w.high w.align space
 
 -- what the tests before the search have shown
 pub record LegalSearch (size align : ℕ) : Type 0 where
@@ -60,9 +63,9 @@ pub record FreeOutcome : Type 0 where
 abbrev pub free_gives : ℕ → ℕ → FreeOutcome
 free_gives n at = record { answer = n; at = at }
 
-abbrev pub free_outcome : Free → FreeOutcome
-free_outcome (At at) = free_gives 0 at
-free_outcome Nowhere = free_gives 7 0
+abbrev pub free_outcome : Option ℕ → FreeOutcome
+free_outcome (Some at) = free_gives 0 at
+free_outcome None = free_gives 7 0
 
 unfoldable pub free_rule : List Area → Ask → FreeOutcome
 free_rule areas q = cond (is_free areas q (lowest_free areas q)) (free_gives 0 (lowest_free areas q)) (free_gives 7 0)

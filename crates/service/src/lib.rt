@@ -2,9 +2,8 @@
 // crates audits and dumps.
 #![tactic(auto)]
 
-use area_list::WORDS;
 use audits::{Verdict, audit};
-use dumps::{ENTRY, HEADER, LONGEST, WORD, dump};
+use dumps::{LONGEST, dump};
 use std::io;
 use stream::{AREA_WORDS, OUT, PAGES, read_full, take_input};
 
@@ -13,12 +12,7 @@ const ENOUGH: usize = LONGEST + 1;
 
 // The line of a verdict. Where it cannot be written a part of it may have been.
 pub fn say(rt: &impl Print, verdict: Verdict) -> io::Result<()> {
-    match verdict {
-        Verdict::Table => println!(rt; "table"),
-        Verdict::Area(slot) => println!(rt; "area {slot}"),
-        Verdict::Page(page) => println!(rt; "page {page}"),
-        Verdict::Good => println!(rt; "good"),
-    }
+    println!(rt; "{verdict}")
 }
 
 // The audit program: a dump from standard input, one line to standard output. Where the dump cannot be read there is no line, and where
@@ -42,10 +36,8 @@ pub fn dump_input(rt: &(impl Input + Print)) -> io::Result<()> {
 // Writes the dump of tables that are not refused. Where that fails a part of it may have been written.
 fn write_dump(rt: &impl Print, areas: &[u64], pages: &[u32], count: usize) -> io::Result<()> {
     let mut out = [0u8; OUT];
-    let answer = dump(areas, pages, count, &mut out);
-    if !answer.accepted() {
-        return Ok(());
+    match dump(areas, pages, count, &mut out) {
+        Ok(written) => rt.write_all(&out[..written]),
+        Err(_) => Ok(()),
     }
-    let length = HEADER + WORD * (WORDS * count) + ENTRY * pages.len();
-    rt.write_all(&out[..length])
 }

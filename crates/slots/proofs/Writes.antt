@@ -1,11 +1,17 @@
--- Laws of a splice's writes: an area's words, the parts one after the other, and the tail, the parts and the zeros that make the
--- stored list. Assumes nothing.
-use Prim.Native.Nat.{ℕ, ◌+◌, ◌-◌, ◌*◌, ◌≤◌, max}
-use mathlib.Core.Path.{◌≡◌, refl, sym, ◌∙◌}
+-- Laws of a splice's writes: a part of the words written anew, the areas one after the other, and the tail, the areas and the zeros
+-- that make the stored list. Assumes nothing.
+use Prim.Native.Nat.{ℕ, suc, ◌+◌, ◌-◌, ◌*◌, ◌≤◌, ◌<◌, max}
+use mathlib.Core.Path.{◌≡◌, refl, sym, ap, ◌∙◌}
 use mathlib.Core.List.{List, [], ◌∷◌, ◌++◌, append_assoc, append-nil}
 use native.Mathlib.Omega.{arith}
-use lib.ListN.{length, take, drop, set, replicate, length-append, length-drop, length-replicate}
-use lib.Seq.{length-take-le}
+use native.Mathlib.Numerals.{add-one}
+use lib.ListN.{length, get_or, take, drop, set, replicate, length-append, length-drop, length-replicate, take-append-drop}
+use lib.Seq.{paste, length-take-le, take-suc, take_all, drop-drop}
+use borrow.Rule.Slice.PartMut.{put_mid}
+use Rattle.std.specs.Prelude.{Option, Some, None, filter, count_by}
+use Rattle.std.specs.Option.{is_some}
+use Rattle.std.proofs.lemmas.List.Elements.{filter_map-append}
+use Rattle.std.proofs.lemmas.List.Sums.{length-filter}
 use Rattle.lists.specs.Over.{over}
 use Rattle.lists.proofs.Over.{over_nothing, over_one, over_next, over_right, over_three}
 use Rattle.area.specs.declared.Area.{Area}
@@ -15,7 +21,18 @@ use Rattle.area_list.specs.Store.{flat, store, spliced}
 use Rattle.area_list.proofs.Rows.{length_rows}
 use Rattle.area_list.proofs.Stores.{length_flat, flat_append, flat_rows_before, flat_rows_from, length_spliced}
 use Rattle.slots.specs.Splice.{parts_of}
-use Rattle.slots.specs.declared.Parts.{Parts}
+
+-- ---- one write
+
+-- words that were written anew, from a place on
+pub over_part : (ws : List ℕ) (p n : ℕ) (xs ys : List ℕ) → ys ≡ xs → n ≡ length xs → put_mid p n ws ys ≡ over ws p xs
+unfolding over
+over_part ws p n xs ys e l = rw (e, drop-drop n p ws, l) refl
+
+-- words that were copied there
+pub over_copy : (ws : List ℕ) (p : ℕ) (xs : List ℕ) (m n : ℕ) → m ≡ n → n ≤ length xs → paste ws p xs m ≡ over ws p (take n xs)
+unfolding over
+over_copy ws p xs m n e h = rw (e, length-take-le n xs h) (append_assoc (take p ws) (take n xs) (drop (p + n) ws))
 
 -- the four words of an area
 pub put_words : (ws : List ℕ) (p : ℕ) (a : Area) (w : ℕ) → p + 4 ≤ length ws → w ≡ word_of a.backend
@@ -31,7 +48,8 @@ put_words ws p a w room e =
     )
 
 -- one area more after those that are there
-put_next : (ws : List ℕ) (slot : ℕ) (xs : List Area) (a : Area) (at : ℕ) {ws₁ ws₂ : List ℕ} → words_per_area * slot ≤ length ws → at ≡ slot + length xs
+put_next : (ws : List ℕ) (slot : ℕ) (xs : List Area) (a : Area) (at : ℕ) {ws₁ ws₂ : List ℕ}
+    → words_per_area * slot ≤ length ws → at ≡ slot + length xs
     → ws₁ ≡ over ws (words_per_area * slot) (flat xs) → ws₂ ≡ over ws₁ (words_per_area * at) (words_of a)
     → ws₂ ≡ over ws (words_per_area * slot) (flat (xs ++ (a ∷ [])))
 unfolding flat
@@ -39,37 +57,75 @@ put_next ws slot xs a at room e p q =
     let place : 4 * at ≡ 4 * slot + length (flat xs) = omega (arith, length_flat xs) in
     q ∙ rw (p, place, over_right ws (4 * slot) (flat xs) (words_of a) room, flat_append xs (a ∷ []), append-nil (words_of a))
 
--- the parts, by their number
-module _ (ws : List ℕ) (slot : ℕ) (parts : Parts) (room : words_per_area * (slot + parts.number) ≤ length ws) where
-  pub put_none : parts.number ≡ 0 → ws ≡ over ws (words_per_area * slot) (flat (parts_of parts))
-  unfolding flat
-  put_none e = rw e (sym (over_nothing ws (words_per_area * slot)))
+-- ---- the areas that go in
 
-  first_put : {ws₁ : List ℕ} → ws₁ ≡ over ws (words_per_area * slot) (words_of parts.first) → ws₁ ≡ over ws (words_per_area * slot) (flat (parts.first ∷ []))
-  unfolding flat
-  first_put p = rw (append-nil (words_of parts.first)) p
+-- how many they are at most
+pub few_parts : (parts : List (Option Area)) → length (parts_of parts) ≤ length parts
+few_parts [] = omega arith
+few_parts (None ∷ parts) = omega (arith, few_parts parts)
+few_parts (Some a ∷ parts) = omega (arith, few_parts parts)
 
-  pub put_one : {ws₁ : List ℕ} → parts.number ≡ 1 → ws₁ ≡ over ws (words_per_area * slot) (words_of parts.first)
-      → ws₁ ≡ over ws (words_per_area * slot) (flat (parts_of parts))
-  put_one e p = rw e (first_put p)
+-- the first k of the options have gone in
+pub record Laid (ws₀ : List ℕ) (slot : ℕ) (parts : List (Option Area)) (k next : ℕ) (ws : List ℕ) : Type 0 where
+  pub place : next ≡ slot + length (parts_of (take k parts))
+  pub done : ws ≡ over ws₀ (words_per_area * slot) (flat (parts_of (take k parts)))
 
-  second_put : {ws₁ ws₂ : List ℕ} → ws₁ ≡ over ws (words_per_area * slot) (words_of parts.first) → ws₂ ≡ over ws₁ (words_per_area * (slot + 1)) (words_of parts.second)
-      → ws₂ ≡ over ws (words_per_area * slot) (flat (parts.first ∷ parts.second ∷ []))
-  second_put p q = put_next ws slot (parts.first ∷ []) parts.second (slot + 1) (omega arith) refl (first_put p) q
+pub laid_begins : (ws : List ℕ) (slot : ℕ) (parts : List (Option Area)) → Laid ws slot parts 0 slot ws
+unfolding flat
+laid_begins ws slot parts = record { place = omega arith; done = sym (over_nothing ws (words_per_area * slot)) }
 
-  pub put_two : {ws₁ ws₂ : List ℕ} → parts.number ≡ 2
-      → ws₁ ≡ over ws (words_per_area * slot) (words_of parts.first) → ws₂ ≡ over ws₁ (words_per_area * (slot + 1)) (words_of parts.second)
-      → ws₂ ≡ over ws (words_per_area * slot) (flat (parts_of parts))
-  put_two e p q = rw e (second_put p q)
+-- the areas of the options up to one, and of one more
+more_parts : (parts : List (Option Area)) (k : ℕ) (d : Option Area) → k < length parts
+    → parts_of (take (k + 1) parts) ≡ parts_of (take k parts) ++ parts_of (get_or parts k d ∷ [])
+more_parts parts k d h =
+    rw (add-one k, take-suc parts k d h) (filter_map-append (λ part. part) (take k parts) (get_or parts k d ∷ []))
 
-  pub put_three : {ws₁ ws₂ ws₃ : List ℕ} → parts.number ≡ 3
-      → ws₁ ≡ over ws (words_per_area * slot) (words_of parts.first) → ws₂ ≡ over ws₁ (words_per_area * (slot + 1)) (words_of parts.second)
-      → ws₃ ≡ over ws₂ (words_per_area * (slot + 2)) (words_of parts.third) → ws₃ ≡ over ws (words_per_area * slot) (flat (parts_of parts))
-  put_three e p q r = rw e (put_next ws slot (parts.first ∷ parts.second ∷ []) parts.third (slot + 2) (omega arith) refl (second_put p q) r)
+-- no more than all
+upto_parts : (parts : List (Option Area)) (k : ℕ) → length (parts_of (take k parts)) ≤ length (parts_of parts)
+upto_parts parts k =
+    let first = parts_of (take k parts) in
+    let rest = parts_of (drop k parts) in
+    let both : length (parts_of (take k parts ++ drop k parts)) ≡ length first + length rest =
+    ap length (filter_map-append (λ part. part) (take k parts) (drop k parts)) ∙ length-append first rest in
+    omega (arith, rw (take-append-drop k parts) at both)
 
 -- how many they are
-pub length_parts : (parts : Parts) → parts.number ≤ 3 → length (parts_of parts) ≡ parts.number
-length_parts parts h = length-take-le parts.number (parts.first ∷ parts.second ∷ parts.third ∷ []) h
+as_many : (parts : List (Option Area)) → length (parts_of parts) ≡ length (filter is_some parts)
+as_many [] = refl
+as_many (None ∷ parts) = as_many parts
+as_many (Some a ∷ parts) = ap suc (as_many parts)
+
+pub length_parts : (parts : List (Option Area)) → length (parts_of parts) ≡ count_by is_some parts
+length_parts parts = as_many parts ∙ length-filter is_some parts
+
+module _ {ws₀ ws : List ℕ} {slot k next : ℕ} {parts : List (Option Area)} (l : Laid ws₀ slot parts k next ws) where
+  module _ (h : k < length parts) where
+    pub laid_none : get_or parts k None ≡ None → Laid ws₀ slot parts (k + 1) next ws
+    laid_none e =
+        let same : parts_of (take (k + 1) parts) ≡ parts_of (take k parts) =
+        more_parts parts k None h ∙ rw (e, append-nil (parts_of (take k parts))) in
+        record { place = rw same l.place; done = rw same l.done }
+
+    module _ (a : Area) (e : get_or parts k None ≡ Some a) where
+      one_more : parts_of (take (k + 1) parts) ≡ parts_of (take k parts) ++ (a ∷ [])
+      one_more = more_parts parts k None h ∙ rw e
+
+      one_longer : length (parts_of (take (k + 1) parts)) ≡ length (parts_of (take k parts)) + 1
+      one_longer = ap length one_more ∙ length-append (parts_of (take k parts)) (a ∷ [])
+
+      pub laid_room : next + 1 ≤ slot + length (parts_of parts)
+      laid_room = omega (arith, l.place, upto_parts parts (k + 1), one_longer)
+
+      pub laid_some : {ws' : List ℕ} → words_per_area * slot ≤ length ws₀ → ws' ≡ over ws (words_per_area * next) (words_of a)
+          → Laid ws₀ slot parts (k + 1) (next + 1) ws'
+      laid_some room w =
+          record {
+            place = omega (arith, l.place, one_longer);
+            done = rw one_more (put_next ws₀ slot (parts_of (take k parts)) a next room l.place l.done w);
+          }
+
+  pub laid_ends : length parts ≤ k → ws ≡ over ws₀ (words_per_area * slot) (flat (parts_of parts))
+  laid_ends h = l.done ∙ rw (take_all k parts h)
 
 -- the three writes of a splice: the tail, the parts and the zeros
 module _ {ws : List ℕ} {count : ℕ} (s : SortedRows ws count) (low high : ℕ) (parts : List Area) (ordered : low ≤ high) (inside : high ≤ count) where

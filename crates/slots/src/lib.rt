@@ -12,78 +12,37 @@ ghost use Rattle.slots.specs.Splice.{parts_of, Gap};
 use area::Area;
 use area_list::{WORDS, word_of};
 
-// At most three areas that take the place of a run of slots.
-#[derive(Clone, Copy)]
-pub struct Parts {
-    pub number: usize,
-    pub first: Area,
-    pub second: Area,
-    pub third: Area,
-}
-
 // An area's words go into a slot.
 fn put(areas: &mut [u64], slot: usize, area: Area)
     requires { words_per_area * slot + words_per_area ≤ length areas.old }
     ensures { areas.new ≡ over areas.old (words_per_area * slot) (words_of area) }
 {
     let at = WORDS * slot;
-    let backend = area.backend;
-    let word = word_of(backend);
     areas[at] = area.start;
     areas[at + 1] = area.end;
     areas[at + 2] = area.flags as u64;
-    areas[at + 3] = word;
+    areas[at + 3] = word_of(area.backend);
 }
 
-// The parts go into the slots from one on: as many as their number says.
-fn put_parts(areas: &mut [u64], slot: usize, parts: Parts)
-    requires number_bound { parts.number ≤ 3 }
-    requires number_in_bounds { words_per_area * (slot + parts.number) ≤ length areas.old }
-    ensures { areas.new ≡ over areas.old (words_per_area * slot) (flat (parts_of parts)) }
+// How many of the parts are there.
+pub fn number(parts: &[Option<Area>]) -> usize
+    ensures { (result ≡ length (parts_of parts.now)) × (result ≤ length parts.now) }
 {
-    let number = parts.number;
-    if number == 0 {
-        return;
-    }
-    let first = parts.first;
-    put(areas, slot, first);
-    if number == 1 {
-        return;
-    }
-    let second = parts.second;
-    put(areas, slot + 1, second);
-    if number == 2 {
-        return;
-    }
-    let third = parts.third;
-    put(areas, slot + 2, third);
+    parts.iter().filter(|part| part.is_some()).count()
 }
 
-// Words move to a lower place: the first goes first, so that none is overwritten before it moved.
-fn move_down(areas: &mut [u64], from: usize, to: usize, words: usize)
-    requires to_le_from { to ≤ from }
-    requires words_in_bounds { from + words ≤ length areas.old }
-    ensures { areas.new ≡ over areas.old to (take words (drop from areas.old)) }
+// The parts that are there go into the slots from one on, one after the other.
+fn put_parts(areas: &mut [u64], slot: usize, parts: &[Option<Area>])
+    requires { words_per_area * (slot + length (parts_of parts.now)) ≤ length areas.old }
+    ensures { areas.new ≡ over areas.old (words_per_area * slot) (flat (parts_of parts.now)) }
 {
-    let mut k = 0;
-    while k < words {
-        let word = areas[from + k];
-        areas[to + k] = word;
-        k += 1;
-    }
-}
-
-// Words move to a higher place: the last goes first.
-fn move_up(areas: &mut [u64], from: usize, to: usize, words: usize)
-    requires from_le_to { from ≤ to }
-    requires words_in_bounds { to + words ≤ length areas.old }
-    ensures { areas.new ≡ over areas.old to (take words (drop from areas.old)) }
-{
-    let mut k = words;
-    while 0 < k {
-        k -= 1;
-        let word = areas[from + k];
-        areas[to + k] = word;
+    let mut next = slot;
+    // No `parts.iter().flatten()`: the proof search finds neither which areas it yields nor the room for one more.
+    for part in parts {
+        if let Some(area) = part {
+            put(areas, next, *area);
+            next += 1;
+        }
     }
 }
 
@@ -93,12 +52,8 @@ fn move_words(areas: &mut [u64], from: usize, to: usize, words: usize)
     requires to_in_bounds { to + words ≤ length areas.old }
     ensures { areas.new ≡ over areas.old to (take words (drop from areas.old)) }
 {
-    if to < from {
-        move_down(areas, from, to, words);
-        return;
-    }
-    if from < to {
-        move_up(areas, from, to, words);
+    if to != from {
+        areas.copy_within(from..from + words, to);
     }
 }
 
@@ -107,24 +62,28 @@ fn zero(areas: &mut [u64], from: usize, end: usize)
     requires { end ≤ length areas.old }
     ensures { areas.new ≡ over areas.old from (replicate (end - from) 0) }
 {
-    let mut at = from;
-    while at < end {
-        areas[at] = 0;
-        at += 1;
+    if from < end {
+        areas[from..end].fill(0);
     }
 }
 
-// Slots low up to high of count give way to the parts; the new number of areas.
-pub fn splice(areas: &mut [u64], count: usize, low: usize, high: usize, parts: Parts) -> usize
+// Slots low up to high of count give way to the parts that are there; the new number of areas.
+pub fn splice(
+    areas: &mut [u64],
+    count: usize,
+    low: usize,
+    high: usize,
+    parts: &[Option<Area>],
+) -> usize
     requires sorted_rows { SortedRows areas.old count }
-    requires gap { Gap (length areas.old) count low high parts.number }
-    ensures { (result ≡ low + parts.number + (count - high))
-        × (areas.new ≡ store (spliced (rows areas.old count) low high (parts_of parts)) areas.old count) }
+    requires gap { Gap (length areas.old) count low high (length (parts_of parts.now)) }
+    ensures { (result ≡ low + length (parts_of parts.now) + (count - high))
+        × (areas.new ≡ store (spliced (rows areas.old count) low high (parts_of parts.now)) areas.old count) }
 {
-    let next = low + parts.number;
+    let next = low + number(parts);
     let tail = count - high;
     let after = next + tail;
-    // The tail moves before the parts are written: more parts than slots that give way overwrite it.
+    // The tail moves before the parts are written: more of them than slots that give way overwrite it.
     move_words(areas, WORDS * high, WORDS * next, WORDS * tail);
     put_parts(areas, low, parts);
     zero(areas, WORDS * after, WORDS * count);

@@ -5,57 +5,45 @@
 ghost use Rattle.std.specs.Prelude.{◌≡◌};
 ghost use Rattle.rules.specs.Change.{changed_outcome, unmap_rule, clear_rule};
 
-use area::Answer;
+use area::Refusal;
 use area_list::capacity;
-use changes::{find_gap, no_parts, sides};
-use good_tables::good;
+use changes::find_gap;
 use page_table::PAGE;
-use questions::range_answer;
-use rules::Changed;
-use slots::splice;
+use questions::{range_answer, tables_answer};
+use slots::{number, splice};
 use wipes::wipe_areas;
 
 // Removes all mappings in a range. Areas inside it vanish, others lose the part inside, and one that surrounds it becomes two.
-pub fn unmap(areas: &mut [u64], pages: &mut [u32], count: usize, start: u64, size: u64) -> Changed
-    ensures { changed_outcome result areas.new pages.new ≡ unmap_rule areas.old pages.old count start size }
+pub fn unmap(
+    areas: &mut [u64],
+    pages: &mut [u32],
+    count: usize,
+    start: u64,
+    size: u64,
+) -> Result<usize, Refusal>
+    ensures { changed_outcome count result areas.new pages.new ≡ unmap_rule areas.old pages.old count start size }
 {
-    let answer = range_answer(areas, pages, count, start, size);
-    if !answer.accepted() {
-        return Changed { answer, count };
-    }
+    let list = range_answer(areas, pages, count, start, size)?;
     if size == 0 {
-        return Changed { answer, count };
+        return Ok(count);
     }
     let end = start + size;
-    let gap = find_gap(areas, count, start, end);
-    let parts = sides(gap);
-    let left = gap.low + parts.number + (count - gap.high);
+    let gap = find_gap(list, start, end);
+    let parts = [gap.left, gap.right];
+    let left = gap.low + number(&parts) + (count - gap.high);
     if capacity(areas.len()) < left {
-        return Changed {
-            answer: Answer::NoRoom,
-            count,
-        };
+        return Err(Refusal::NoRoom);
     }
-    wipe_areas(areas, pages, count, start, end);
-    let count = splice(areas, count, gap.low, gap.high, parts);
-    Changed { answer, count }
+    wipe_areas(list, pages, start, end);
+    Ok(splice(areas, count, gap.low, gap.high, &parts))
 }
 
 // Removes all areas and makes all their pages unmapped.
-pub fn clear(areas: &mut [u64], pages: &mut [u32], count: usize) -> Changed
-    ensures { changed_outcome result areas.new pages.new ≡ clear_rule areas.old pages.old count }
+pub fn clear(areas: &mut [u64], pages: &mut [u32], count: usize) -> Result<usize, Refusal>
+    ensures { changed_outcome count result areas.new pages.new ≡ clear_rule areas.old pages.old count }
 {
-    if !good(areas, count, pages.len()) {
-        return Changed {
-            answer: Answer::BadTables,
-            count,
-        };
-    }
+    let list = tables_answer(areas, pages, count)?;
     let space = PAGE * (pages.len() as u64);
-    wipe_areas(areas, pages, count, 0, space);
-    let count = splice(areas, count, 0, count, no_parts());
-    Changed {
-        answer: Answer::Accepted,
-        count,
-    }
+    wipe_areas(list, pages, 0, space);
+    Ok(splice(areas, count, 0, count, &[]))
 }

@@ -1,15 +1,12 @@
 -- The walk (01, "The calls"): "every area in order, as a walk that reads the caller's area table where it lies. A refused walk
 -- yields no area; its number is the one len gives." Laws: `proofs/Yields.antt`. Assumes nothing.
-use Rattle.std.specs.Prelude.{ℕ, zero, suc, ◌+◌, List, [], ◌∷◌}
+use Rattle.std.specs.Prelude.{◌≡◌, ℕ, zero, suc, ◌+◌, List, [], ◌∷◌, Option, Some, None}
 use Rattle.std.specs.Borrow.{Bor}
-use Rattle.area.specs.Answer.{number, Reply, reply}
+use Rattle.area.specs.Answer.{Reply, reply}
 use Rattle.area.specs.declared.Area.{Area}
 use Rattle.area_list.specs.Item.{item_at}
-use Rattle.area_list.specs.declared.Item.{Item}
-use Rattle.area_list.specs.declared.Item.TheVariants.{Some, None}
-use Rattle.questions.specs.Question.{len_rule}
+use Rattle.questions.specs.Question.{len_outcome, len_rule}
 use Rattle.walk.specs.declared.Walk.{Walk}
-use Rattle.walk.specs.declared.Step.{Step}
 
 -- ---- a walk is made
 
@@ -22,8 +19,12 @@ pub record Place : Type 0 where
 abbrev pub place : Bor (List ℕ) → ℕ → ℕ → Place
 place areas count slot = record { areas = areas; count = count; slot = slot }
 
+-- how many areas it goes through: as many as len says, and 0 where len refused
+abbrev pub count_of : Walk → ℕ
+count_of w = (len_outcome w.len).value
+
 abbrev pub walk_outcome : Walk → Reply Place
-walk_outcome w = reply (number w.answer) (place w.areas w.count w.slot)
+walk_outcome w = reply (len_outcome w.len).answer (place w.areas (count_of w) w.slot)
 
 -- len's number, and as many areas as len says: 0 in a refusal
 unfoldable pub walk_rule : Bor (List ℕ) → List ℕ → ℕ → Reply Place
@@ -33,22 +34,23 @@ walk_rule areas pages count =
 -- ---- it is stepped
 
 -- one slot further after an area; where there is none it stays, so a walk ends once and for all
-abbrev pub after : Item → ℕ → ℕ
+abbrev pub after : Option Area → ℕ → ℕ
 after (Some area) slot = slot + 1
 after None slot = slot
 
-abbrev pub step_at : List ℕ → ℕ → ℕ → Step
-step_at ws count slot = record { item = item_at ws count slot; slot = after (item_at ws count slot) slot }
-
-abbrev pub yielded : Walk → Item
-yielded w = item_at w.areas.now w.count w.slot
+abbrev pub yielded : Walk → Option Area
+yielded w = item_at w.areas.now (count_of w) w.slot
 
 abbrev pub moved : Walk → Walk
-moved w = record { areas = w.areas; count = w.count; slot = after (yielded w) w.slot; answer = w.answer }
+moved w = record { areas = w.areas; len = w.len; slot = after (yielded w) w.slot }
+
+-- one step: what it yields, and the walk afterwards
+abbrev pub Steps : Walk → Option Area → Walk → Type 0
+Steps w item w' = (item ≡ yielded w) × (w' ≡ moved w)
 
 -- ---- all that it yields in so many steps, up to the first that yields none
 
-abbrev pub followed_by : Item → List Area → List Area
+abbrev pub followed_by : Option Area → List Area → List Area
 followed_by (Some area) rest = area ∷ rest
 followed_by None rest = []
 

@@ -1,73 +1,56 @@
 // Every area in order, read where the caller's area table lies. A `Walk` holds that slice and a slot; each function over the struct
-// is thin, since `len` tests the tables and `step_at`, on a plain slice and numbers, reads a slot.
+// is thin, since `len` tests the tables and `item_at`, on a plain slice and numbers, reads a slot.
 #![tactic(auto)]
 
-ghost use Rattle.std.specs.Prelude.{◌≡◌};
-ghost use Rattle.area.specs.Answer.{number};
-ghost use Rattle.walk.specs.Walking.{walk_outcome, walk_rule, step_at, yielded, moved};
+ghost use Rattle.std.specs.Prelude.{◌≡◌, ◌-◌};
+ghost use Rattle.std.specs.Iterator.{at_most};
+ghost use Rattle.walk.specs.Walking.{walk_outcome, walk_rule, count_of, Steps};
 
-use area::Answer;
-use area_list::{Item, item_at};
-use questions::len;
+use area::{Area, Refusal};
+use area_list::item_at;
 
-// A walk: the caller's words as they lie, how many areas it goes through, the slot it is at, and what len answered. A refused
-// one goes through none.
+// A walk: the caller's words as they lie, what len answered, and the slot that it is at. It goes through as many areas as len says; a
+// refused one through none.
 #[derive(Clone, Copy)]
 pub struct Walk<'a> {
     pub areas: &'a [u64],
-    pub count: usize,
+    pub len: Result<usize, Refusal>,
     pub slot: usize,
-    pub answer: Answer,
-}
-
-// What a slot has, and the slot after it.
-#[derive(Drop)]
-struct Step {
-    item: Item,
-    slot: usize,
-}
-
-// Where there is no area, the walk stays where it is: so it ends once and for all.
-fn step_at(areas: &[u64], count: usize, slot: usize) -> Step
-    ensures { result ≡ step_at areas.now count slot }
-{
-    let item = item_at(areas, count, slot);
-    match item {
-        Item::Some(_) => Step {
-            item,
-            slot: slot + 1,
-        },
-        Item::None => Step { item, slot },
-    }
 }
 
 impl<'a> Walk<'a> {
     // A walk from the first area to the last. The tables are tested once, here.
+    #[tactic(auto, using(crate::proofs::Yields::begun_is))]
     pub fn new(areas: &'a [u64], pages: &[u32], count: usize) -> Walk<'a>
         ensures { walk_outcome result ≡ walk_rule areas.entry pages.now count }
     {
-        let counted = len(areas, pages, count);
         Walk {
             areas,
-            count: counted.len,
+            len: questions::len(areas, pages, count),
             slot: 0,
-            answer: counted.answer,
         }
     }
 
     // What len answers for the same tables.
-    pub fn answer(self) -> Answer
-        ensures { number result ≡ number self.entry.answer }
+    pub fn answer(self) -> Result<usize, Refusal>
+        ensures { result ≡ self.entry.len }
     {
-        self.answer
+        self.len
     }
+}
 
-    // The next area, and the walk moves on; or none.
-    pub fn next(&mut self) -> Item
-        ensures { (result ≡ yielded self.old) × (self.new ≡ moved self.old) }
-    {
-        let step = step_at(self.areas, self.count, self.slot);
-        self.slot = step.slot;
-        step.item
+impl<'a> Iterator for Walk<'a> {
+    type Item = Area;
+
+    // The next area, and the walk moves on; or none, and it stays where it is: so it ends once and for all.
+    ghost next_gives = { Steps };
+
+    ghost remaining = { λ w. at_most (count_of w - w.slot) };
+
+    #[tactic(auto, using(area_list::proofs::Items::some_below))]
+    fn next(&mut self) -> Option<Area> {
+        let area = item_at(self.areas, self.len.unwrap_or(0), self.slot)?;
+        self.slot += 1;
+        Some(area)
     }
 }

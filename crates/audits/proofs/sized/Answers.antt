@@ -10,12 +10,12 @@ returns-then-bytes-lt-HEADER c = sym (not_sized _ (λ s. omega (arith, s.long)))
 
 pub returns-then-count-gt-AREAS : goal.returns-then-count-gt-AREAS
 unfolding count_in
-returns-then-count-gt-AREAS c = sym (not_sized _ (λ s. omega (arith, s.few_areas, c.word64-count.ensures)))
+returns-then-count-gt-AREAS c = sym (not_sized _ (λ s. omega (arith, s.few_areas, c.read-count.ensures)))
 
 pub returns-then-pages-gt-PAGES : goal.returns-then-pages-gt-PAGES
 unfolding pages_in
-returns-then-pages-gt-PAGES c = sym (not_sized _ (λ s. omega (arith, s.few_pages, c.word64-pages.ensures)))
+returns-then-pages-gt-PAGES c = sym (not_sized _ (λ s. omega (arith, s.few_pages, c.read-pages.ensures)))
 
 pub returns : goal.returns
 unfolding count_in pages_in
-returns c = length_decides _ _ _ c.word64-count.ensures c.word64-pages.ensures c.if-count-gt-AREAS.false c.if-pages-gt-PAGES.false
+returns c = length_decides _ _ _ c.read-count.ensures c.read-pages.ensures c.if-count-gt-AREAS.false c.if-pages-gt-PAGES.false

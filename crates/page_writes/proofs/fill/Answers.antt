@@ -1,29 +1,15 @@
--- `fill` meets its contract: the loop is a `Sweep` of one entry. Assumes nothing.
-use mathlib.Core.Path.{refl}
-use native.Mathlib.Omega.{arith}
+-- `fill` meets its contract: the loop is a `Sweep` of every change that the calls make. Assumes nothing.
+use Rattle.std.proofs.Common.{arith}
 use Rattle.lists.proofs.Sweep.{begins, goes_on, ends}
 use Rattle.page_writes.proofs.fill.Goals as goal
 
 pub loop-page-init : goal.loop-page-init
-loop-page-init c = begins _ _ _ _
-
-pub offset_bounds-pages-page : goal.offset_bounds-pages-page
-offset_bounds-pages-page c = omega arith
-
-pub bounds-pages-page : goal.bounds-pages-page
-bounds-pages-page c = omega arith
-
-pub overflow_add-page : goal.overflow_add-page
-overflow_add-page c = omega arith
-
-pub loop-page-smaller : goal.loop-page-smaller
-loop-page-smaller c = omega arith
+loop-page-init g c change makes = begins _ _ _ _
 
 pub loop-page-preserved : goal.loop-page-preserved
-loop-page-preserved c = goes_on c.loop-page.invariant _ c.loop-page-test.true (omega arith) refl
-
-pub shape_of-pages : goal.shape_of-pages
-shape_of-pages c = c.loop-page.invariant.long
+loop-page-preserved g c change makes =
+    goes_on (c.loop-page.invariant change makes) _ c.loop-page-test.true (omega arith)
+    (makes _ _ _ (omega arith) c.entry.ensures)
 
 pub returns : goal.returns
-returns c = ends c.loop-page.invariant _ c.loop-page-test.false c.least-stop.ensures
+returns g c change makes = ends (c.loop-page.invariant change makes) _ c.loop-page-test.false c.min-page-end.ensures

@@ -3,33 +3,26 @@ use native.Mathlib.Omega.{arith}
 use mathlib.Core.Path.{◌∙◌, sym}
 use Rattle.area_list.proofs.Rows.{length_rows}
 use Rattle.area_list.proofs.Goodness.{tables_are}
-use Rattle.area_list.proofs.Positions.{sorted}
 use Rattle.protection.proofs.Splits.{none_past, starts_later, not_changed, split_here}
 use Rattle.protection.proofs.cut_slot.Goals as goal
 
-pub first_ending_past-slot-requires : goal.first_ending_past-slot-requires
-first_ending_past-slot-requires c = sorted (tables_are _ _ _ c.requires.tables_good)
-
-pub returns-then-count-slot : goal.returns-then-count-slot
-returns-then-count-slot c = sym (length_rows _ _)
-    ∙ none_past _ _ _ _ _ c.first_ending_past-slot.ensures (rw length_rows c.if-count-slot.true)
-
-pub area_at-area-requires-clause-sorted_rows : goal.area_at-area-requires-clause-sorted_rows
-area_at-area-requires-clause-sorted_rows c = sorted (tables_are _ _ _ c.requires.tables_good)
-
-pub area_at-area-requires-clause-slot_lt_count : goal.area_at-area-requires-clause-slot_lt_count
-area_at-area-requires-clause-slot_lt_count c = omega arith
+pub returns-then-areas-slot : goal.returns-then-areas-slot
+returns-then-areas-slot c = sym (length_rows _ _)
+    ∙ none_past _ _ _ _ _ c.first_ending_past-slot.ensures (rw length_rows c.if-areas-slot.true)
 
 pub returns-then-address-area : goal.returns-then-address-area
 returns-then-address-area c = sym (length_rows _ _)
-    ∙ starts_later _ _ _ _ _ c.first_ending_past-slot.ensures (tables_are _ _ _ c.requires.tables_good).ordered
-    _ c.area_at-area.ensures (rw length_rows ((omega arith))) c.if-address-area.true
+    ∙ starts_later _ _ _ _ _ c.first_ending_past-slot.ensures (tables_are _ _ _ c.args.areas.good).ordered
+    _ c.at-area.ensures (rw length_rows (omega arith)) c.if-address-area.true
 
-pub returns-then-new_flags-area : goal.returns-then-new_flags-area
-returns-then-new_flags-area c = sym (length_rows _ _)
-    ∙ not_changed _ _ _ _ _ c.first_ending_past-slot.ensures (tables_are _ _ _ c.requires.tables_good).ordered
-    _ c.area_at-area.ensures (rw length_rows ((omega arith))) (sym c.new_flags.ensures ∙ c.if-new_flags-area.true)
+pub returns-then-of-area : goal.returns-then-of-area
+returns-then-of-area c = sym (length_rows _ _)
+    ∙ not_changed _ _ _ _ _ c.first_ending_past-slot.ensures (tables_are _ _ _ c.args.areas.good).ordered
+    _ c.at-area.ensures (rw length_rows (omega arith)) (sym c.of.ensures ∙ c.if-of-area.true)
 
 pub returns : goal.returns
-returns c = split_here _ _ _ _ _ c.first_ending_past-slot.ensures (tables_are _ _ _ c.requires.tables_good).ordered
-    _ c.area_at-area.ensures (rw length_rows ((omega arith))) c.if-address-area.false (λ e. c.if-new_flags-area.false (c.new_flags.ensures ∙ e))
+returns c = (
+  omega arith,
+  split_here _ _ _ _ _ c.first_ending_past-slot.ensures (tables_are _ _ _ c.args.areas.good).ordered
+      _ c.at-area.ensures (rw length_rows (omega arith)) c.if-address-area.false (λ e. c.if-of-area.false (c.of.ensures ∙ e)),
+)

@@ -1,14 +1,13 @@
 -- `len` meets its contract. Assumes nothing.
-use mathlib.Core.Path.{◌∙◌, sym}
-use Rattle.area.proofs.Answers.{reply_zero, reply_suc}
+use mathlib.Core.Path.{sym}
+use Rattle.area.proofs.Answers.{accepts, stops}
 use Rattle.questions.specs.Question.{len_rule}
-use Rattle.questions.proofs.Answering.{tables_bad, tables_good}
 use Rattle.questions.proofs.len.Goals as goal
 
-pub returns-then-not-good : goal.returns-then-not-good
+pub returns-in_err-tables_answer : goal.returns-in_err-tables_answer
 unfolding len_rule
-returns-then-not-good c = reply_suc _ _ _ 0 (tables_bad _ _ _ (sym c.good.ensures ∙ c.if-not-good.true))
+returns-in_err-tables_answer c = stops _ _ _ _ _ c.from_residual.ensures.1 c.in_err-tables_answer.ensures.answer
 
 pub returns : goal.returns
 unfolding len_rule
-returns c = reply_zero _ _ _ (tables_good _ _ _ (sym c.good.ensures ∙ c.if-not-good.false))
+returns c = accepts _ _ _ (sym c.in_ok-tables_answer.ensures.answer)

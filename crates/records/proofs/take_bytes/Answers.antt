@@ -1,39 +1,27 @@
 -- `take_bytes` meets its contract. Assumes nothing.
+use Prim.Native.Nat.{◌+◌, ◌-◌}
 use mathlib.Core.Path.{refl}
 use native.Mathlib.Omega.{arith}
-use Rattle.records.proofs.Feeding.{feeds_begin, feeds_on, feeds_end, sized_begin, sized_on}
+use lib.ListN.{length}
+use Rattle.rules.specs.Change.{tables}
+use Rattle.records.proofs.Feeding.{feeds_begin, feeds_on, feeds_end, next_part, room_on}
 use Rattle.records.proofs.take_bytes.Goals as goal
 
-pub loop-k-init : goal.loop-k-init
-loop-k-init c = (feeds_begin _ c.args.input.now c.args.out.now, sized_begin c.requires.bytes_len c.requires.filled_lt_record_size c.requires.input_in_bounds)
+pub loop-byte-init : goal.loop-byte-init
+loop-byte-init c =
+    record { feeds = feeds_begin _ c.args.input.now c.args.out.now; whole = c.told-bytes; part = c.requires.filled_lt_record_size; room = omega arith }
 
-pub bounds-input-k : goal.bounds-input-k
-bounds-input-k c = omega arith
-
-pub take_byte-taken-requires-clause-bytes_len : goal.take_byte-taken-requires-clause-bytes_len
-take_byte-taken-requires-clause-bytes_len c = c.loop-k.invariant.1.record_long
-
-pub take_byte-taken-requires-clause-filled_lt_record_size : goal.take_byte-taken-requires-clause-filled_lt_record_size
-take_byte-taken-requires-clause-filled_lt_record_size c = c.loop-k.invariant.1.part
-
-pub take_byte-taken-requires-clause-longest_line_in_bounds : goal.take_byte-taken-requires-clause-longest_line_in_bounds
-take_byte-taken-requires-clause-longest_line_in_bounds c = λ e. omega arith
-
-pub take_byte-taken-requires-clause-at_in_bounds : goal.take_byte-taken-requires-clause-at_in_bounds
-take_byte-taken-requires-clause-at_in_bounds c = omega arith
-
-pub overflow_add-k : goal.overflow_add-k
-overflow_add-k c = omega arith
-
-pub loop-k-smaller : goal.loop-k-smaller
-loop-k-smaller c = omega arith
-
-pub loop-k-preserved : goal.loop-k-preserved
-loop-k-preserved c = (
-  feeds_on c.loop-k.invariant.0 c.loop-k-test.true _ refl _ c.take_byte-taken.ensures.bytes_after c.take_byte-taken.ensures.put,
-  sized_on c.loop-k.invariant.1 c.loop-k-test.true _ _ c.take_byte-taken.auto.areas c.take_byte-taken.auto.pages c.take_byte-taken.auto.bytes c.take_byte-taken.ensures.put c.take_byte-taken.ensures.filled_value,
-)
+pub loop-byte-preserved : goal.loop-byte-preserved
+loop-byte-preserved c =
+    let room = room_on (tables c.loop-byte.areas c.loop-byte.pages c.loop-byte.fed.count) c.loop-byte.bytes c.loop-byte.fed.filled _
+    (length c.args.input.now - (c.loop-byte.byte-index + 1)) c.loop-byte.invariant.whole c.loop-byte.invariant.part c.take_byte-fed.ensures.put c.take_byte-fed.ensures.filled_value in
+    record {
+      feeds = feeds_on c.loop-byte.invariant.feeds c.loop-byte-test.true _ refl _ c.take_byte-fed.ensures.bytes_after c.take_byte-fed.ensures.put;
+      whole = omega arith;
+      part = rw c.take_byte-fed.ensures.filled_value (next_part c.loop-byte.fed.filled);
+      room = omega arith;
+    }
 
 pub returns : goal.returns
-returns c = let end = feeds_end c.loop-k.invariant.0 c.loop-k-test.false in
-    record { bytes_after = end.0; put = end.1; part_held = c.loop-k.invariant.1.part }
+returns c = let end = feeds_end c.loop-byte.invariant.feeds (omega arith) in
+    record { bytes_after = end.0; put = end.1; part_held = c.loop-byte.invariant.part }

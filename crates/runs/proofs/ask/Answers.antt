@@ -1,26 +1,40 @@
 -- `ask` meets its contract. Assumes nothing.
 use mathlib.Core.Path.{sym, ap, ◌∙◌}
-use Rattle.area.specs.Answer.{number}
 use Rattle.lines.specs.Line.{line_bytes}
-use Rattle.lines.specs.declared.Line.{Line}
 use Rattle.runs.specs.Step.{answer_line, found_line, told_line, placed_line, asked_line}
-use Rattle.runs.proofs.Steps.{change_ok}
+use Rattle.runs.proofs.Steps.{asked_refused, change_ok}
 use Rattle.runs.proofs.ask.Goals as goal
 
-pub returns-in-Find : goal.returns-in-Find
+pub returns-in_err-area-in-Find : goal.returns-in_err-area-in-Find
 unfolding asked_line
-returns-in-Find c = c.answer_line.ensures ∙ ap found_line c.find-found.ensures ∙ sym (rw c.in-Find.is)
+returns-in_err-area-in-Find c =
+    asked_refused _ _ _ c.from_residual.ensures.1
+    (ap found_line c.in_err-area-in-Find.ensures ∙ sym (rw c.in-Find.is))
 
-pub returns-in-Overlaps : goal.returns-in-Overlaps
+pub returns-in_err-yes-in-Overlaps : goal.returns-in_err-yes-in-Overlaps
 unfolding asked_line
-returns-in-Overlaps c = c.answer_line-in-Overlaps.ensures
-    ∙ ap (λ (l : Line). answer_line (number c.overlaps-told.result.answer) (line_bytes l)) c.overlap_line.ensures
-    ∙ ap told_line c.overlaps-told.ensures
-    ∙ sym (rw c.in-Overlaps.is)
+returns-in_err-yes-in-Overlaps c =
+    asked_refused _ _ _ c.from_residual-in_err-yes-in-Overlaps.ensures.1
+    (ap told_line c.in_err-yes-in-Overlaps.ensures ∙ sym (rw c.in-Overlaps.is))
 
-pub returns-in-Search : goal.returns-in-Search
+pub returns-in_err-at-in-Search : goal.returns-in_err-at-in-Search
 unfolding asked_line
-returns-in-Search c = c.answer_line-in-Search.ensures ∙ ap placed_line c.find_free_area-placed.ensures ∙ sym (rw c.in-Search.is)
+returns-in_err-at-in-Search c =
+    asked_refused _ _ _ c.from_residual-in_err-at-in-Search.ensures.1
+    (ap placed_line c.in_err-at-in-Search.ensures ∙ sym (rw c.in-Search.is))
+
+pub returns-in_ok-area-in-Find : goal.returns-in_ok-area-in-Find
+unfolding asked_line answer_line
+returns-in_ok-area-in-Find c = ap found_line c.in_ok-area-in-Find.ensures ∙ sym (rw c.in-Find.is)
+
+pub returns-in_ok-yes-in-Overlaps : goal.returns-in_ok-yes-in-Overlaps
+unfolding asked_line answer_line
+returns-in_ok-yes-in-Overlaps c =
+    ap line_bytes c.overlap_line.ensures ∙ ap told_line c.in_ok-yes-in-Overlaps.ensures ∙ sym (rw c.in-Overlaps.is)
+
+pub returns-in_ok-at-in-Search : goal.returns-in_ok-at-in-Search
+unfolding asked_line answer_line
+returns-in_ok-at-in-Search c = ap placed_line c.in_ok-at-in-Search.ensures ∙ sym (rw c.in-Search.is)
 
 pub returns-in-Bad : goal.returns-in-Bad
 unfolding asked_line

@@ -1,9 +1,12 @@
 -- `run` meets its contract. Assumes nothing.
-use mathlib.Core.Path.{ap, ◌∙◌}
-use Rattle.area.specs.Answer.{number}
-use Rattle.runs.specs.Step.{answer_line}
-use Rattle.runs.proofs.Steps.{two_steps}
+use mathlib.Core.Path.{◌∙◌}
+use Rattle.lines.specs.Line.{line_bytes}
+use Rattle.runs.proofs.Steps.{accepted_line, refused_line, result_spoken, two_steps}
 use Rattle.runs.proofs.run.Goals as goal
 
-pub returns : goal.returns
-returns c = two_steps _ _ _ _ _ c.change-changed.ensures (c.answer_line-line.ensures ∙ ap (answer_line (number c.change-changed.result.answer)) c.ask.ensures)
+pub returns-in-Ok : goal.returns-in-Ok
+returns-in-Ok c = two_steps _ _ _ _ _ c.in-Ok.ensures (accepted_line (result_spoken _ _ c.unwrap_or_else.ensures ∙ c.ask.ensures))
+
+pub returns-in-Err : goal.returns-in-Err
+unfolding line_bytes
+returns-in-Err c = two_steps _ _ _ _ _ c.in-Err.ensures (refused_line _ _)

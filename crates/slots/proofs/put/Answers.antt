@@ -14,4 +14,4 @@ pub bounds-areas-at-4 : goal.bounds-areas-at-4
 bounds-areas-at-4 c = simp length-set (omega arith)
 
 pub returns : goal.returns
-returns c = put_words _ _ _ _ c.requires c.word_of-word.ensures
+returns c = put_words _ _ _ _ c.requires c.word_of.ensures

@@ -1,16 +1,25 @@
--- `put_parts` meets its contract: the parts lie side by side, as many as their number says. Assumes nothing.
+-- `put_parts` meets its contract: the loop lays the areas down one after the other. Assumes nothing.
 use native.Mathlib.Omega.{arith}
-use Rattle.slots.proofs.Writes.{put_none, put_one, put_two, put_three}
+use Rattle.slots.proofs.Writes.{laid_begins, laid_room, laid_some, laid_none, laid_ends}
 use Rattle.slots.proofs.put_parts.Goals as goal
+use Rattle.slots.proofs.put_parts.Goals.{in-Some, in_default}
 
-pub returns-then-number-eq0 : goal.returns-then-number-eq0
-returns-then-number-eq0 c = put_none c.args.areas.now c.args.slot c.args.parts c.requires.number_in_bounds c.if-number-eq0.true
+pub loop-part-init : goal.loop-part-init
+loop-part-init c = laid_begins _ _ _
 
-pub returns-then-number-eq1 : goal.returns-then-number-eq1
-returns-then-number-eq1 c = put_one c.args.areas.now c.args.slot c.args.parts c.requires.number_in_bounds c.if-number-eq1.true c.put.ensures
+pub put-requires : goal.put-requires
+put-requires c = omega (arith, laid_room c.loop-part.invariant (omega arith) _ c.in-Some.is)
 
-pub returns-then-number-eq2 : goal.returns-then-number-eq2
-returns-then-number-eq2 c = put_two c.args.areas.now c.args.slot c.args.parts c.requires.number_in_bounds c.if-number-eq2.true c.put.ensures c.put-2.ensures
+pub loop-part-preserved : goal.loop-part-preserved
+loop-part-preserved c =
+    elim c.match-part.branch [
+      | in-Some w ↦ rw (w.next-is, w.areas-is)
+          (laid_some c.loop-part.invariant (omega arith) _ w.in-Some.is (omega arith) w.put.ensures)
+      | in_default w ↦ rw (w.next-is, w.areas-is) (laid_none c.loop-part.invariant (omega arith) w.in_default.is)
+    ]
 
 pub returns : goal.returns
-returns c = put_three c.args.areas.now c.args.slot c.args.parts c.requires.number_in_bounds (omega arith) c.put.ensures c.put-2.ensures c.put-3.ensures
+returns c = laid_ends c.loop-part.invariant (omega arith)
+
+pub overflow_add-next : goal.overflow_add-next
+overflow_add-next c = omega (arith, laid_room c.loop-part.invariant (omega arith) _ c.in-Some.is)

@@ -5,7 +5,7 @@ use mathlib.Core.Path.{refl}
 use lib.ListN.{length}
 use Rattle.area_list.specs.Layout.{capacity_of}
 use Rattle.slots.specs.Splice.{parts_of}
-use Rattle.slots.proofs.Writes.{length_parts, splice_writes}
+use Rattle.slots.proofs.Writes.{splice_writes}
 use Rattle.slots.proofs.splice.Goals as goal
 
 pub move_words-requires : goal.move_words-requires
@@ -22,10 +22,12 @@ zero-requires c = omega arith
 
 pub returns : goal.returns
 unfolding capacity_of
-returns c = let fits : 4 * (c.args.low + c.args.parts.number + (c.args.count - c.args.high)) ≤ length c.args.areas.now = omega (arith, c.requires.gap) in (
-  refl,
-  splice_writes c.requires.sorted_rows c.args.low c.args.high (parts_of c.args.parts) c.requires.gap.ordered c.requires.gap.inside
-      (c.args.low + c.args.parts.number) (c.args.low + c.args.parts.number + (c.args.count - c.args.high))
-      (omega (arith, length_parts c.args.parts c.requires.gap.few)) refl fits
-      c.move_words.ensures c.put_parts.ensures c.zero.ensures,
-)
+returns c =
+    let put = parts_of c.args.parts.now in
+    let next = c.args.low + length put in
+    let after = next + (c.args.count - c.args.high) in
+    let fits : 4 * after ≤ length c.args.areas.now = omega (arith, c.requires.gap) in (
+      omega arith,
+      splice_writes c.requires.sorted_rows c.args.low c.args.high put c.requires.gap.ordered c.requires.gap.inside next after refl refl fits
+          (rw c.number.ensures.0 at c.move_words.ensures) c.put_parts.ensures (rw c.number.ensures.0 at c.zero.ensures),
+    )

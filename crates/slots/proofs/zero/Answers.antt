@@ -1,28 +1,23 @@
--- `zero` meets its contract: the loop lays zeros down from the front. Assumes nothing.
+-- `zero` meets its contract. Assumes nothing.
+use Prim.Native.Nat.{ℕ, ◌-◌}
+use mathlib.Core.Path.{◌≡◌, sym, ap, ◌∙◌}
 use native.Mathlib.Omega.{arith}
-use Rattle.lists.proofs.Over.{rise_begins, repeats, repeats_end}
+use lib.ListN.{length, take, drop, replicate, length-replicate, length-drop}
+use lib.Seq.{length-take-le}
+use Rattle.lists.proofs.Over.{over_nothing}
+use Rattle.slots.proofs.Writes.{over_part}
 use Rattle.slots.proofs.zero.Goals as goal
 
-pub loop-at-init : goal.loop-at-init
-loop-at-init c = (omega arith, rise_begins _ _ _ _ (omega arith))
+pub returns-then-from-end : goal.returns-then-from-end
+returns-then-from-end c =
+    let n : ℕ = c.args.end - c.args.from in
+    let part = drop c.args.from c.args.areas.now in
+    let long : length (take n part) ≡ n = length-take-le n part (omega (arith, length-drop c.args.from c.args.areas.now)) in
+    over_part _ _ _ (replicate n 0) _
+    (c.fill.ensures.after (λ y h. h) ∙ ap (λ (m : ℕ). replicate m 0) long)
+    (sym (length-replicate n 0))
 
-pub offset_bounds-areas-at : goal.offset_bounds-areas-at
-offset_bounds-areas-at c = omega arith
-
-pub bounds-areas-at : goal.bounds-areas-at
-bounds-areas-at c = omega arith
-
-pub overflow_add-at : goal.overflow_add-at
-overflow_add-at c = omega arith
-
-pub loop-at-smaller : goal.loop-at-smaller
-loop-at-smaller c = omega arith
-
-pub loop-at-preserved : goal.loop-at-preserved
-loop-at-preserved c = (omega arith, repeats _ _ _ _ c.loop-at.invariant.1 c.requires c.loop-at.invariant.0 c.loop-at-test.true)
-
-pub shape_of-areas : goal.shape_of-areas
-shape_of-areas c = c.loop-at.invariant.1.long
-
-pub returns : goal.returns
-returns c = repeats_end _ _ _ _ c.loop-at.invariant.1 c.loop-at-test.false
+pub returns-else-from-end : goal.returns-else-from-end
+returns-else-from-end c =
+    let none : c.args.end - c.args.from ≡ 0 = omega arith in
+    rw none (sym (over_nothing c.args.areas.now c.args.from))

@@ -1,17 +1,12 @@
--- `wipe_areas` meets its contract. The invariant: the tables are good, and what the whole list does to the pages at entry is what the
--- slots that are left do to the pages now. Assumes nothing.
-use Prim.Native.Nat.{◌-◌}
-use mathlib.Core.Path.{◌≡◌}
-use mathlib.Core.Bool.{true}
+-- `wipe_areas` meets its contract. The invariant: what the areas that meet the range do to the pages at entry is what those that are
+-- left do to the pages now. Assumes nothing.
 use lib.ListN.{length}
 use Rattle.area_list.specs.Layout.{rows}
-use Rattle.area_list.specs.Good.{good_tables}
 use Rattle.effects.specs.Pages.{wipes_area}
 use Rattle.effects.proofs.Sweeping.{Swept}
+use Rattle.wipes.specs.Meeting.{meeting}
 use Rattle.wipes.proofs.wipe_areas.Given as goal
 
-abbrev pub invariant-loop-slot : goal.invariant-loop-slot
-invariant-loop-slot l = (good_tables l.areas l.count (length l.initial.pages) ≡ true) × Swept wipes_area (rows l.areas l.count) l.low l.high l.slot l.initial.pages l.pages
-
-abbrev pub decreases-loop-slot : goal.decreases-loop-slot
-decreases-loop-slot l = l.count - l.slot
+abbrev pub invariant-loop-area : goal.invariant-loop-area
+invariant-loop-area l =
+    Swept wipes_area (meeting l.low l.high (rows l.areas.words.now l.areas.count)) l.low l.high (length l.yielded) l.initial.pages l.pages

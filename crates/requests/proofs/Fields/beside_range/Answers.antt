@@ -3,4 +3,4 @@ use Rattle.requests.proofs.Requests.{one, both, handed}
 use Rattle.requests.proofs.Fields.beside_range.Goals as goal
 
 pub returns : goal.returns
-returns c = both (handed c.wide.ensures.0 (both (both (both one one) one) one)) one
+returns c = both (handed c.from.ensures (both (both (both one one) one) one)) one

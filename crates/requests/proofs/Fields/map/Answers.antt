@@ -1,10 +1,12 @@
 -- `Fields::map` meets its contract. Assumes nothing.
-use mathlib.Core.Path.{◌∙◌}
-use Rattle.requests.proofs.Requests.{one, both, handed, unless_blank, map_linear, map_lazy}
+use mathlib.Core.Path.{sym, ◌∙◌}
+use Rattle.requests.proofs.Requests.{one, both, handed, unless_is, map_some, map_none}
 use Rattle.requests.proofs.Fields.map.Goals as goal
 
-pub returns-then-self-eq1 : goal.returns-then-self-eq1
-returns-then-self-eq1 c = c.unless.ensures ∙ unless_blank _ (both (handed c.wide.ensures.0 one) one) ∙ map_linear c.args.self c.args.replace c.if-self-eq1.true
+pub returns-in-Some : goal.returns-in-Some
+returns-in-Some c =
+    c.unless.ensures ∙ unless_is _ (both (handed c.from.ensures one) one)
+    ∙ map_some c.args.self _ (sym c.backend.ensures ∙ c.in-Some.is) c.args.replace
 
-pub returns : goal.returns
-returns c = c.unless-2.ensures ∙ unless_blank _ (both (both (handed c.wide.ensures.0 one) one) (handed c.wide-2.ensures.0 (both one one))) ∙ map_lazy c.args.self c.args.replace c.if-self-eq1.false
+pub returns-in-None : goal.returns-in-None
+returns-in-None c = map_none c.args.self (sym c.backend.ensures ∙ c.in-None.is) c.args.replace

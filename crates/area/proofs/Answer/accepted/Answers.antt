@@ -1,8 +1,0 @@
--- `Answer::accepted` meets its contract. Assumes nothing.
-use mathlib.Core.Path.{ap}
-use Prim.Native.Nat.{ℕ}
-use lib.Dec.{eqb}
-use Rattle.area.proofs.Answer.accepted.Goals as goal
-
-pub returns : goal.returns
-returns c = ap (λ (n : ℕ). eqb n 0) c.number.ensures

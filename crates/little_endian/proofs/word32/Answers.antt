@@ -1,7 +1,0 @@
--- `word32` meets its contract. Assumes nothing.
-use native.Mathlib.Omega.{arith}
-use Rattle.little_endian.proofs.Numbers.{number_four}
-use Rattle.little_endian.proofs.word32.Goals as goal
-
-pub returns : goal.returns
-returns c = omega (arith, number_four c.args.bytes.now c.args.at)
