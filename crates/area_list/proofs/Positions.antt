@@ -138,6 +138,12 @@ module _ (ws : List ℕ) (count : ℕ) where
         (λ h. let l : r < count = omega (arith, length_rows ws count) in
         rw (rows_at ws count r l) (le-leb address (row_at ws r).start (rw (start_is r [] l) at (ltb-false _ _ (p.1 r [] (omega arith) (omega (arith, length_words ws count)))))))
 
+pub starting_zero : (ws : List ℕ) (count address : ℕ) → address ≡ 0 → 0 ≡ first_where (starts_from address) (rows ws count)
+unfolding starts_from
+starting_zero ws count address z =
+    first_is (starts_from address) (rows ws count) 0 (omega arith) (λ k h. absurd (omega arith))
+    (λ h. le-leb address (get_or (rows ws count) 0 nothing).start (omega arith))
+
 -- good tables are sorted
 pub sorted : {ws : List ℕ} {count p : ℕ} → GoodTables ws count p → SortedRows ws count
 sorted {ws} {count} {p} g =

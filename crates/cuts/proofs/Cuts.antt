@@ -12,8 +12,9 @@ use Rattle.area.specs.Area.{aligned, good_area, largest_space, part, nothing}
 use Rattle.cuts.specs.Cut.{cut_tests, cut_answer, Pair, pair, split_outcome, split_rule, shrunk_outcome, size_answer, shrink_left_rule, shrink_right_rule}
 use Rattle.area.specs.declared.Area.{Area}
 use Rattle.std.specs.Prelude.{Result, Ok, Err}
+use Rattle.area.specs.declared.Refusal.{Refusal}
 use Rattle.cuts.specs.declared.Uncut.{Uncut}
-use Rattle.area.proofs.Answers.{reply_accepted, reply_refused, reply_answer, refusal_inj, refusal_some}
+use Rattle.area.proofs.Answers.{reply_accepted, reply_refused, reply_answer, refusal_some, one_outcome}
 use Rattle.area.proofs.Areas.{Good, Halves, good_is, part_good, halves}
 
 -- the tests in their order: each section adds that one more did not apply
@@ -144,11 +145,19 @@ split_parts a at z =
 
 -- ---- no second outcome: the answer's number and the areas fix the result
 
+-- a refusal alone is an answer with nothing beside it, so the law of all calls says which it is
+abbrev why : Refusal → Result (Unit {0}) Refusal → Refusal
+why other (Ok value) = other
+why other (Err refusal) = refusal
+
+same_refusal : (r s : Refusal) → number r ≡ number s → r ≡ s
+same_refusal r s e = ap (why r) (one_outcome tt (Err r) (Err s) (λ i. reply (e i) tt))
+
 same_uncut : {B : Type 0} (f : Area → B) (back : B → Area) → ((a : Area) → back (f a) ≡ a) → (u v : Uncut)
     → reply (number u.refusal) (f u.area) ≡ reply (number v.refusal) (f v.area) → u ≡ v
 same_uncut f back undo u v e i =
     record {
-      refusal = refusal_inj u.refusal v.refusal (ap (λ (r : Reply _). r.answer) e) i;
+      refusal = same_refusal u.refusal v.refusal (ap (λ (r : Reply _). r.answer) e) i;
       area = (sym (undo u.area) ∙ ap (λ (r : Reply _). back r.value) e ∙ undo v.area) i;
     }
 

@@ -8,7 +8,8 @@ use lib.Seq.{take_at, get_or_at, get_or-take, take-take, take_all}
 use borrow.Rule.Slice.PartMut.{put_mid, Post-is}
 use Rattle.lists.specs.Over.{over}
 use Rattle.lists.proofs.Over.{over_right, over_nothing, over_one, length_over, Falls, fall_begins, fall_goes_on, fall_ends}
-use Rattle.area.specs.Answer.{number}
+use Rattle.std.specs.Prelude.{Result, Ok as Fine, Err}
+use Rattle.area.specs.Answer.{number_of}
 use Rattle.area.specs.declared.Refusal.{Refusal}
 use Rattle.area.specs.declared.Refusal.TheVariants.{BadTables, NotAligned, InvalidParam, AlreadyExists, BadState, NoRoom, NotFound}
 use Rattle.lines.specs.Line.{digit, hex, address, range_length, range_bytes, longest_line, line_bytes, Put, Writes}
@@ -111,14 +112,15 @@ pub length_range : (start end : ℕ) → length (range_bytes start end) ≡ rang
 unfolding range_bytes
 length_range start end = simp (length-append, length_hex)
 
-pub number_small : (a : Refusal) → number a < 10
-number_small BadTables = omega arith
-number_small NotAligned = omega arith
-number_small InvalidParam = omega arith
-number_small AlreadyExists = omega arith
-number_small BadState = omega arith
-number_small NoRoom = omega arith
-number_small NotFound = omega arith
+pub number_small : {A : Type 0} (a : Result A Refusal) → number_of a < 10
+number_small (Fine value) = omega arith
+number_small (Err BadTables) = omega arith
+number_small (Err NotAligned) = omega arith
+number_small (Err InvalidParam) = omega arith
+number_small (Err AlreadyExists) = omega arith
+number_small (Err BadState) = omega arith
+number_small (Err NoRoom) = omega arith
+number_small (Err NotFound) = omega arith
 
 pub line_short : (line : Line) → length (line_bytes line) ≤ longest_line
 unfolding line_bytes
@@ -140,11 +142,12 @@ pub writes_spaced : {a b c : Out} (start end after : ℕ)
 unfolding range_bytes
 writes_spaced start end after s t = simp append_assoc (simp append_assoc at (writes_then s t))
 
--- the line of a refusal, by its number's digit
-pub no_line_lem : (refusal : Refusal) (n k : ℕ) → n ≡ number refusal → k ≡ digit n → line_bytes (No refusal) ≡ 110 ∷ 111 ∷ 32 ∷ k ∷ 10 ∷ []
+-- the line of an answer, by its number's digit
+pub no_line_lem : (answer : Result (Unit {0}) Refusal) (n k : ℕ) → n ≡ number_of answer → k ≡ digit n
+    → line_bytes (No answer) ≡ 110 ∷ 111 ∷ 32 ∷ k ∷ 10 ∷ []
 unfolding line_bytes
-no_line_lem refusal n k e f = rw (f, e)
+no_line_lem answer n k e f = rw (f, e)
 
 -- an answer's number is one digit
-pub number_digit : (a : Refusal) → digit (number a) ≡ digit (number a % 16)
-number_digit a = let e : number a ≡ number a % 16 = omega (arith, number_small a) in ap digit e
+pub number_digit : {A : Type 0} (a : Result A Refusal) → digit (number_of a) ≡ digit (number_of a % 16)
+number_digit a = let e : number_of a ≡ number_of a % 16 = omega (arith, number_small a) in ap digit e

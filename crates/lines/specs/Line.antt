@@ -5,7 +5,7 @@ use Rattle.std.specs.Prelude.{ℕ, zero, suc, ◌+◌, ◌/◌, ◌%◌, ◌≤�
 use Prim.Native.Char.{code}
 use Prim.Native.String.{String, [] as empty, ◌∷◌ as ◌then◌}
 use Rattle.lists.specs.Over.{over}
-use Rattle.area.specs.Answer.{number}
+use Rattle.area.specs.Answer.{number_of}
 use Rattle.lines.specs.declared.Line.{Line}
 use Rattle.lines.specs.declared.Out.{Out}
 use Rattle.lines.specs.declared.Line.TheVariants.{Ok, No, In, At, Over, Free, Bad, Cut, Area}
@@ -45,7 +45,7 @@ no_line k = bytes "no " ++ (digit k ∷ bytes "\n")
 
 unfoldable pub line_bytes : Line → List ℕ
 line_bytes Ok = bytes "ok\n"
-line_bytes (No answer) = no_line (number answer)
+line_bytes (No answer) = no_line (number_of answer)
 line_bytes (In start end) = bytes "in " ++ (range_bytes start end ++ bytes "\n")
 line_bytes (At a) = bytes "at " ++ (address a ++ bytes "\n")
 line_bytes Over = bytes "over\n"

@@ -4,11 +4,11 @@
 ghost use Rattle.std.specs.Prelude.{◌≡◌, ◌+◌, ◌≤◌, ◌<◌, length, [], ◌∷◌, ◌++◌};
 ghost use Rattle.lines.specs.Line.{digit, hex, longest_line, range_length, range_bytes, line_bytes, Put, Writes};
 
-use area::Refusal;
+use area::{Refusal, number_of};
 
 // The most bytes that a line has.
 pub const LONGEST: usize = 41;
-// Hex digits of an address, of flags, and of a refusal's number, which is below 10.
+// Hex digits of an address, of flags, and of an answer's number, which is below 10.
 const ADDRESS: usize = 16;
 
 const FLAGS: usize = 1;
@@ -19,8 +19,8 @@ const NUMBER: usize = 1;
 pub enum Line {
     // A change was accepted.
     Ok,
-    // A refusal.
-    No(Refusal),
+    // The number of an answer. A refusal's is what a caller says by it, but any answer may be put.
+    No(Result<(), Refusal>),
     // The area that was found, from start up to end.
     In(u64, u64),
     // The address that a search gave.
@@ -101,9 +101,9 @@ impl Out<'_> {
     {
         match line {
             Line::Ok => self.put(b"ok\n"),
-            Line::No(refusal) => {
+            Line::No(answer) => {
                 self.put(b"no ");
-                self.hex(NUMBER, u64::from(refusal.number()), b'\n');
+                self.hex(NUMBER, u64::from(number_of(&answer)), b'\n');
             }
             Line::In(start, end) => {
                 self.put(b"in ");

@@ -29,6 +29,10 @@ pub fn first_ending_past(areas: Areas<'_>, address: u64) -> usize
 pub fn first_starting_from(areas: Areas<'_>, address: u64) -> usize
     ensures { result ≡ first_where (starts_from address) (rows areas.entry.words.now areas.entry.count) }
 {
+    // every area starts there or past it, so nothing is searched
+    if address == 0 {
+        return 0;
+    }
     table(areas).partition_point(|row| row[START] < address)
 }
 

@@ -112,6 +112,6 @@ pub fn entries<'a>(areas: &[u64], pages: &'a [u32], count: usize, address: u64) 
             let end = (area.end / PAGE) as usize;
             &pages[first..end]
         }
-        Err(_) => &[],
+        Err(_) => &pages[..0],
     }
 }

@@ -85,7 +85,7 @@ module _ (areas pages : List ℕ) (count filled : ℕ) (out : List ℕ) where
       rw e (reply_refused [] n (cut_line filled ++ listing (rows areas count)) h) in
       (ap (λ (r : Reply (List ℕ)). r.answer) rule, rw (← rule) (put_nothing out 0 (omega arith)))
 
-  finish_bad : good_tables areas count (length pages) ≡ false
+  pub finish_bad : good_tables areas count (length pages) ≡ false
       → (1 ≡ (finish_rule areas pages count filled (length out)).answer) × Put out 0 (finish_rule areas pages count filled (length out)).value out 0
   unfolding finish_answer answer
   finish_bad g = finish_refused 1 (λ z. omega arith) (rw g)

@@ -38,7 +38,7 @@ refused_line refusal line = no_line_lem (number refusal) line (refusal_some refu
 
 -- what is said of an answer
 pub result_spoken : (answer : Result Line Refusal) (said : Line)
-    → MatchResult answer (λ l. said ≡ l) (λ r. said ≡ line.No r) → line_bytes said ≡ result_line answer
+    → MatchResult answer (λ l. said ≡ l) (λ r. said ≡ line.No (Err r)) → line_bytes said ≡ result_line answer
 unfolding line_bytes
 result_spoken (Ok l) said e = ap line_bytes e
 result_spoken (Err r) said e = rw e

@@ -1,7 +1,7 @@
 // One record of the record program, run on the tables: the call of the set that it asks for, and the line of the answer.
 #![tactic(auto)]
 
-ghost use Rattle.std.specs.Prelude.{◌≡◌, cond};
+ghost use Rattle.std.specs.Prelude.{◌≡◌, cond, Err};
 ghost use Rattle.rules.specs.Change.{tables, changed_outcome};
 ghost use Rattle.runs.specs.Step.{step_outcome, result_line, run_rule, step_rule, change_rule, asked_line};
 
@@ -78,6 +78,13 @@ fn ask(areas: &[u64], pages: &[u32], count: usize, request: Request) -> Result<L
     }
 }
 
+// The line of a refused question. `Line::No` alone would do, if it took a refusal and not an answer.
+fn refused_line(refusal: Refusal) -> Line
+    ensures { result ≡ Line.No (Err refusal) }
+{
+    Line::No(Err(refusal))
+}
+
 // Makes the call that a request asks for.
 pub fn run(areas: &mut [u64], pages: &mut [u32], count: usize, request: Request) -> Stepped
     ensures { step_outcome result areas.new pages.new ≡ run_rule (tables areas.old pages.old count) request }
@@ -85,11 +92,11 @@ pub fn run(areas: &mut [u64], pages: &mut [u32], count: usize, request: Request)
     match change(areas, pages, count, request) {
         Ok(count) => Stepped {
             count,
-            line: ask(areas, pages, count, request).unwrap_or_else(Line::No),
+            line: ask(areas, pages, count, request).unwrap_or_else(refused_line),
         },
         Err(refusal) => Stepped {
             count,
-            line: Line::No(refusal),
+            line: Line::No(Err(refusal)),
         },
     }
 }

@@ -9,6 +9,7 @@ use lib.ListN.{length, get_or, take, drop, set, replicate, length-append, length
 use lib.Seq.{paste, length-take-le, take-suc, take_all, drop-drop}
 use borrow.Rule.Slice.PartMut.{put_mid}
 use Rattle.std.specs.Prelude.{Option, Some, None, filter, count_by}
+use Rattle.std.specs.Int.{from_bool}
 use Rattle.std.specs.Option.{is_some}
 use Rattle.std.proofs.lemmas.List.Elements.{filter_map-append}
 use Rattle.std.proofs.lemmas.List.Sums.{length-filter}
@@ -79,6 +80,17 @@ more_parts : (parts : List (Option Area)) (k : ℕ) (d : Option Area) → k < le
     → parts_of (take (k + 1) parts) ≡ parts_of (take k parts) ++ parts_of (get_or parts k d ∷ [])
 more_parts parts k d h =
     rw (add-one k, take-suc parts k d h) (filter_map-append (λ part. part) (take k parts) (get_or parts k d ∷ []))
+
+-- how many the options up to one and the next are: one more where that one is there
+one_or_none : (part : Option Area) → length (parts_of (part ∷ [])) ≡ from_bool (is_some part)
+one_or_none None = refl
+one_or_none (Some a) = refl
+
+pub counted : (parts : List (Option Area)) (k : ℕ) → k < length parts
+    → length (parts_of (take (k + 1) parts)) ≡ length (parts_of (take k parts)) + from_bool (is_some (get_or parts k None))
+counted parts k h =
+    let part = get_or parts k None in
+    ap length (more_parts parts k None h) ∙ length-append (parts_of (take k parts)) (parts_of (part ∷ [])) ∙ rw (one_or_none part)
 
 -- no more than all
 upto_parts : (parts : List (Option Area)) (k : ℕ) → length (parts_of (take k parts)) ≤ length (parts_of parts)

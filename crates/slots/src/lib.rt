@@ -24,11 +24,16 @@ fn put(areas: &mut [u64], slot: usize, area: Area)
     areas[at + 3] = word_of(area.backend);
 }
 
-// How many of the parts are there.
+// How many of the parts are there. A loop, and no chain of filter and count: of the chain LLVM makes one loop in another, some 75
+// instructions more in each map and unmap.
 pub fn number(parts: &[Option<Area>]) -> usize
     ensures { (result ≡ length (parts_of parts.now)) × (result ≤ length parts.now) }
 {
-    parts.iter().filter(|part| part.is_some()).count()
+    let mut number = 0;
+    for part in parts {
+        number += usize::from(part.is_some());
+    }
+    number
 }
 
 // The parts that are there go into the slots from one on, one after the other.

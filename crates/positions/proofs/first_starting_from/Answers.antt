@@ -2,8 +2,11 @@
 use lib.Dec.{ltb}
 use Rattle.std.proofs.Common.{rules}
 use Rattle.std.proofs.lemmas.List.Sorted.{IsPartitionedBy-ltb, IsPartitionPoint-from_clause}
-use Rattle.area_list.proofs.Positions.{start_in, starts_column, starting_is}
+use Rattle.area_list.proofs.Positions.{start_in, starts_column, starting_is, starting_zero}
 use Rattle.positions.proofs.first_starting_from.Goals as goal
+
+pub returns-then-address-eq0 : goal.returns-then-address-eq0
+returns-then-address-eq0 c = starting_zero _ _ _ c.if-address-eq0.true
 
 pub returns : goal.returns
 returns c =

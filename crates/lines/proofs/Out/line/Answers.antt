@@ -1,5 +1,8 @@
 -- `Out::line` meets its contract: the texts that an arm puts, one after another, are the line. Assumes nothing.
 use mathlib.Core.List.{append_assoc}
+use mathlib.Core.Path.{◌≡◌}
+use native.Mathlib.Omega.{arith}
+use Rattle.area.specs.Answer.{number_of}
 use Rattle.lines.specs.Line.{hex, line_bytes}
 use Rattle.lines.proofs.Lines.{writes_then, number_digit}
 use Rattle.lines.proofs.Out.line.Goals as goal
@@ -7,7 +10,8 @@ use Rattle.lines.proofs.Out.line.Goals as goal
 pub returns-in-No : goal.returns-in-No
 unfolding hex line_bytes
 returns-in-No c =
-    rw (c.in-No.is, number_digit c.in-No.refusal, ← c.number.ensures, ← c.from.ensures) (writes_then c.put-in-No.ensures c.hex.ensures.put)
+    let value : c.from.result ≡ number_of c.in-No.answer = omega (arith, c.from.ensures, c.number_of.ensures) in
+    rw (c.in-No.is, number_digit c.in-No.answer, ← value) (writes_then c.put-in-No.ensures c.hex.ensures.put)
 
 pub returns-in-In : goal.returns-in-In
 unfolding line_bytes
